@@ -1,0 +1,12 @@
+// Cases of the rules, run on the compiled code: `edges` has one table of quotes for each market, `spreads` a second
+// listing of Vienna's tables, `limits` what is refused, `months` the verdicts.
+#[cfg(test)]
+mod edge;
+#[cfg(test)]
+mod edges;
+#[cfg(test)]
+mod limits;
+#[cfg(test)]
+mod months;
+#[cfg(test)]
+mod spreads;

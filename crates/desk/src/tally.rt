@@ -1,0 +1,46 @@
+// How many quotes were judged, and how. A count that is full stays full.
+ghost use mathlib.Core.Path.{_≡_};
+ghost use Prim.Native.Nat.{_+_};
+ghost use Rattle.std.specs.declared.option.Option.the-variants.{Some};
+ghost use Rattle.desk.specs.Tallies.{counted, tally-text, none-judged};
+use crate::reply::Reply;
+use std::fmt;
+
+#[derive(Clone, Copy, PartialEq, Eq, Debug)]
+pub struct Tally {
+    pub meet: u64,
+    pub do_not: u64,
+}
+
+impl Tally {
+    pub fn new() -> Tally
+        ensures { λ r. ⌜ r ≡ none-judged ⌝ }
+    {
+        Tally { meet: 0, do_not: 0 }
+    }
+
+    // One reply more: only a judged quote counts.
+    pub fn count(&mut self, reply: &Reply)
+        ensures { λ _. ⌜ now (self .exit) ≡ counted (now (reply .entry)) (now (self .entry)) ⌝ }
+    {
+        match reply {
+            Reply::Meets => self.meet = self.meet.saturating_add(1),
+            Reply::DoesNotMeet => self.do_not = self.do_not.saturating_add(1),
+            Reply::Accepted | Reply::Refused(_) | Reply::Unreadable => {}
+        }
+    }
+}
+
+pub impl fmt::Display for Tally as TallyDisplay {
+    ghost shown = { λ tally. Some (tally-text tally) };
+
+    fn fmt<W: fmt::Write>(&self, f: &mut fmt::Formatter<W>) -> fmt::Result {
+        let meet = self.meet;
+        let do_not = self.do_not;
+        let judged = meet.saturating_add(do_not);
+        write!(
+            f,
+            "quotes judged: {judged}, meet: {meet}, do not meet: {do_not}"
+        )
+    }
+}

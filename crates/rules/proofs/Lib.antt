@@ -1,0 +1,4 @@
+pub mod EdgeCases
+pub mod Made
+pub mod Plainly
+pub mod Spreads

@@ -1,0 +1,20 @@
+// BETa's month: kept where more than half of the days were kept.
+ghost use Rattle.rules.specs.Months.{majority-verdict};
+use crate::month_figures::MonthFigures;
+use crate::month_rule::MonthRule;
+use crate::verdict::Verdict;
+
+#[derive(Clone, Copy)]
+pub struct Majority;
+
+pub impl MonthRule for Majority as MajorityRule {
+    ghost verdict = { λ _. majority-verdict };
+
+    fn verdict(&self, figures: &MonthFigures, _threshold: u16) -> Verdict {
+        if 2 * figures.kept_days as u64 > figures.days as u64 {
+            Verdict::Kept
+        } else {
+            Verdict::Breach
+        }
+    }
+}

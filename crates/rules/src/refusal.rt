@@ -1,0 +1,23 @@
+// Why a call is refused.
+ghost use mathlib.Core.Path.{_≡_};
+ghost use Rattle.rules.specs.Refusals.{number};
+
+#[derive(Clone, Copy, PartialEq, Eq, Debug)]
+pub enum Refusal {
+    FieldOutOfRange,
+    QuoteOutOfLimits,
+    BidNotBelowAsk,
+}
+
+impl Refusal {
+    // The number by which a refusal is told.
+    pub fn number(&self) -> u8
+        ensures { λ r. ⌜ r ≡ number (now (self .entry)) ⌝ }
+    {
+        match self {
+            Refusal::FieldOutOfRange => 4,
+            Refusal::QuoteOutOfLimits => 5,
+            Refusal::BidNotBelowAsk => 6,
+        }
+    }
+}
