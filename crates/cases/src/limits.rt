@@ -1,11 +1,19 @@
 // Which numbers make a quote and terms, and with which number the others are refused.
-use crate::edge::sides;
 use rules::conditions::Conditions;
 use rules::quote::Quote;
 use rules::refusal::Refusal;
 use rules::sides::Sides;
 use rules::terms::Terms;
 use std::test::*;
+
+fn sides(bid: u32, ask: u32, bid_size: u32, ask_size: u32) -> Sides {
+    Sides {
+        bid,
+        ask,
+        bid_size,
+        ask_size,
+    }
+}
 
 // The number of a refusal, and 0 where there is none.
 fn quoted(given: Sides) -> u8 {

@@ -17,7 +17,8 @@ use Rattle.std.specs.declared.option.Option.{Option}
 use Rattle.std.specs.declared.option.Option.the-variants.{Some, None}
 use Rattle.std.specs.declared.result.Result.{Result}
 use Rattle.std.specs.declared.result.Result.the-variants.{Ok, Err}
-use Rattle.desk.specs.Lines.{words, numbers-of}
+use Rattle.lines.specs.Numbers.{numbers-of}
+use Rattle.lines.specs.Words.{words}
 use Rattle.desk.specs.Requests.{silent, asked, asked-by, request-of}
 use Rattle.desk.specs.declared.request.Request.{Request}
 use Rattle.desk.specs.declared.request.Request.the-variants.{Silent, Unreadable}

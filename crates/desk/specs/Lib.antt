@@ -1,4 +1,3 @@
-pub mod Lines
 pub mod Requests
 pub mod Replies
 pub mod Tallies

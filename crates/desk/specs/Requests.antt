@@ -8,7 +8,8 @@ use lib.ListN.{length, getD}
 use Rattle.std.specs.shelf.Text.{sameBytes}
 use Rattle.std.specs.declared.option.Option.{Option}
 use Rattle.std.specs.declared.option.Option.the-variants.{Some, None}
-use Rattle.desk.specs.Lines.{words, numbers-of}
+use Rattle.lines.specs.Numbers.{numbers-of}
+use Rattle.lines.specs.Words.{words}
 use Rattle.desk.specs.declared.request.Request.{Request}
 use Rattle.desk.specs.declared.request.Request.the-variants.{Silent, Terms, Quote, Unreadable}
 

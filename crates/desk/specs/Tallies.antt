@@ -15,6 +15,9 @@ none-judged = record { meet = 0; «do_not» = 0 }
 abbrev pub capped : ℕ → ℕ
 capped n = min n (2 ^ 64 - 1)
 
+abbrev pub judged-in : Tally → ℕ
+judged-in t = capped (t .meet + t .«do_not»)
+
 abbrev pub counted : Reply → Tally → Tally
 counted Accepted t = t
 counted Meets t = record { meet = capped (t .meet + 1); «do_not» = t .«do_not» }
@@ -24,5 +27,5 @@ counted Unreadable t = t
 
 abbrev pub tally-text : Tally → List ℕ
 tally-text t =
-    codes "quotes judged: " ++ (decimal (capped (t .meet + t .«do_not»))
+    codes "quotes judged: " ++ (decimal (judged-in t)
     ++ (codes ", meet: " ++ (decimal (t .meet) ++ (codes ", do not meet: " ++ decimal (t .«do_not»)))))

@@ -21,6 +21,11 @@ pub struct Desk<Q> {
     tally: Tally,
 }
 
+// Whatever terms stand, a quote that is better than one that meets them is told that it meets them too.
+fn better_keeps_meeting<Q: QuoteRule>(rule: &Q)
+    ensures { λ _. ⌜ Better-keeps-meeting (Q·QuoteRule .better (now (rule .entry))) (Q·QuoteRule .meets (now (rule .entry))) ⌝ }
+{}
+
 impl<Q: QuoteRule + Drop> Desk<Q> {
     // A desk with no terms yet.
     pub fn new(rule: Q) -> Desk<Q>
@@ -29,6 +34,7 @@ impl<Q: QuoteRule + Drop> Desk<Q> {
         ensures tally { λ r. ⌜ r .tally ≡ none-judged ⌝ }
         ensures better { λ _. ⌜ Better-keeps-meeting (Q·QuoteRule .better rule) (Q·QuoteRule .meets rule) ⌝ }
     {
+        better_keeps_meeting(&rule);
         Desk {
             rule,
             standing: None,

@@ -1,10 +1,8 @@
-// The desk that tells a member why a quote did not count: lines of text in, one reply to each. `request` reads a line
-// (`words` and `numbers` take it apart), `desk` holds the rule and the terms that stand and gives the `reply`, `tally`
-// counts what was judged, and `market` knows the rules by name.
+// The desk that tells a member why a quote did not count: lines of text in, one reply to each. `request` reads a line,
+// `desk` holds the rule and the terms that stand and gives the `reply`, `tally` counts what was judged, and `market`
+// knows the rules by name.
 pub mod desk;
 pub mod market;
-pub mod numbers;
 pub mod reply;
 pub mod request;
 pub mod tally;
-pub mod words;

@@ -1,12 +1,11 @@
 // How many quotes were judged, and how. A count that is full stays full.
 ghost use mathlib.Core.Path.{_≡_};
-ghost use Prim.Native.Nat.{_+_};
 ghost use Rattle.std.specs.declared.option.Option.the-variants.{Some};
-ghost use Rattle.desk.specs.Tallies.{counted, tally-text, none-judged};
+ghost use Rattle.desk.specs.Tallies.{none-judged, judged-in, counted, tally-text};
 use crate::reply::Reply;
 use std::fmt;
 
-#[derive(Clone, Copy, PartialEq, Eq, Debug)]
+#[derive(Clone, Copy)]
 pub struct Tally {
     pub meet: u64,
     pub do_not: u64,
@@ -17,6 +16,13 @@ impl Tally {
         ensures { λ r. ⌜ r ≡ none-judged ⌝ }
     {
         Tally { meet: 0, do_not: 0 }
+    }
+
+    // All quotes judged.
+    pub fn judged(&self) -> u64
+        ensures { λ r. ⌜ r ≡ judged-in (now (self .entry)) ⌝ }
+    {
+        self.meet.saturating_add(self.do_not)
     }
 
     // One reply more: only a judged quote counts.
@@ -35,9 +41,9 @@ pub impl fmt::Display for Tally as TallyDisplay {
     ghost shown = { λ tally. Some (tally-text tally) };
 
     fn fmt<W: fmt::Write>(&self, f: &mut fmt::Formatter<W>) -> fmt::Result {
+        let judged = self.judged();
         let meet = self.meet;
         let do_not = self.do_not;
-        let judged = meet.saturating_add(do_not);
         write!(
             f,
             "quotes judged: {judged}, meet: {meet}, do not meet: {do_not}"

@@ -64,9 +64,9 @@ tier-numbered n t e = grind (arith, tells)
 
 ranges-hold : (t : Terms) → in-range (conditions-of t) ≡ true
 ranges-hold t =
-    and-from _ _ (within-from 1 7 (t .class) (t .classed))
-    (and-from _ _ (within-from 1 10000 (t .limit) (t .limited))
-    (and-from _ _ (within-from 1 4000000000 (t .minimum) (t .least)) (within-from 1 10000 (t .threshold) (t .shared))))
+    and-from _ _ (within-from 1 7 (t .class) (t .classes))
+    (and-from _ _ (within-from 1 10000 (t .limit) (t .limits))
+    (and-from _ _ (within-from 1 4000000000 (t .minimum) (t .minimums)) (within-from 1 10000 (t .threshold) (t .thresholds))))
 
 terms-by-is : (t : Terms) (ranges : Bool) (e : in-range (conditions-of t) ≡ ranges) → Ok t ≡ terms-by (conditions-of t) ranges (Some (t .tier)) e
 terms-by-is t false e = absurd (both-ways _ e (ranges-hold t))
@@ -78,10 +78,10 @@ terms-by-is t true e =
       limit = t .limit;
       minimum = t .minimum;
       threshold = t .threshold;
-      classed = within-prop 1 7 (t .class) (t .classed) (made .classed) i;
-      limited = within-prop 1 10000 (t .limit) (t .limited) (made .limited) i;
-      least = within-prop 1 4000000000 (t .minimum) (t .least) (made .least) i;
-      shared = within-prop 1 10000 (t .threshold) (t .shared) (made .shared) i;
+      classes = within-prop 1 7 (t .class) (t .classes) (made .classes) i;
+      limits = within-prop 1 10000 (t .limit) (t .limits) (made .limits) i;
+      minimums = within-prop 1 4000000000 (t .minimum) (t .minimums) (made .minimums) i;
+      thresholds = within-prop 1 10000 (t .threshold) (t .thresholds) (made .thresholds) i;
     })
 
 pub terms-is : (t : Terms) → Ok t ≡ terms-of (conditions-of t)

@@ -31,10 +31,10 @@ terms-made c tier e =
       limit = c .limit;
       minimum = c .minimum;
       threshold = c .threshold;
-      classed = within-says 1 7 (c .class) (class .0);
-      limited = within-says 1 10000 (c .limit) (limit .0);
-      least = within-says 1 4000000000 (c .minimum) (others .0);
-      shared = within-says 1 10000 (c .threshold) (others .1);
+      classes = within-says 1 7 (c .class) (class .0);
+      limits = within-says 1 10000 (c .limit) (limit .0);
+      minimums = within-says 1 4000000000 (c .minimum) (others .0);
+      thresholds = within-says 1 10000 (c .threshold) (others .1);
     }
 
 -- By the ranges and the tier's number.

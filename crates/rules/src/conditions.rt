@@ -1,6 +1,6 @@
 // An account's terms as they are given, not yet held against any range. The tier is 0 relative, 1 stagnating, 2 fixed;
 // limit and threshold are basis points.
-#[derive(Clone, Copy, PartialEq, Eq, Debug)]
+#[derive(Clone, Copy)]
 pub struct Conditions {
     pub class: u32,
     pub tier: u32,

@@ -5,7 +5,7 @@ ghost use Prim.Native.Nat.{_≤_, _<_};
 mod make;
 
 // Every quote that exists has its bid below its ask and all four numbers within the limits.
-#[derive(Clone, Copy, PartialEq, Eq, Debug)]
+#[derive(Clone, Copy)]
 pub struct Quote {
     bid: u32,
     ask: u32,

@@ -2,24 +2,21 @@
 ghost use mathlib.Core.Path.{_≡_};
 ghost use Prim.Native.Nat.{_≤_};
 use crate::tier::Tier;
-use crate::tier::TierDebug;
-use crate::tier::TierEq;
-use crate::tier::TierPartialEq;
 
 mod make;
 
 // Limit and threshold are basis points. What the minimum counts (pieces, or money) is the quote rule's to say.
-#[derive(Clone, Copy, PartialEq, Eq, Debug)]
+#[derive(Clone, Copy)]
 pub struct Terms {
     class: u8,
     tier: Tier,
     limit: u16,
     minimum: u32,
     threshold: u16,
-    ghost classed: { (1 ≤ class) × (class ≤ 7) },
-    ghost limited: { (1 ≤ limit) × (limit ≤ 10_000) },
-    ghost least: { (1 ≤ minimum) × (minimum ≤ 4_000_000_000) },
-    ghost shared: { (1 ≤ threshold) × (threshold ≤ 10_000) },
+    ghost classes: { (1 ≤ class) × (class ≤ 7) },
+    ghost limits: { (1 ≤ limit) × (limit ≤ 10_000) },
+    ghost minimums: { (1 ≤ minimum) × (minimum ≤ 4_000_000_000) },
+    ghost thresholds: { (1 ≤ threshold) × (threshold ≤ 10_000) },
 }
 
 impl Terms {

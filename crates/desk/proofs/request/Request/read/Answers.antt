@@ -4,7 +4,7 @@ use Prim.Native.Nat.{ℕ}
 use native.Mathlib.Omega.{arith}
 use denote.Ref.{now, RefT}
 use lib.Utf8.{encode}
-use Rattle.desk.proofs.Readings.{not-first}
+use Rattle.lines.proofs.Readings.{not-first}
 use Rattle.desk.proofs.Asking.{line-asked}
 use Rattle.desk.proofs.request.Request.read.Needs as need
 

@@ -7,4 +7,4 @@ pub upward-law : need.upward-law
 upward-law rule p q t better meets =
     let b = beta-better-reads q p .0 better in
     let m = beta-reads p t .0 meets in
-    beta-reads q t .1 (against-middle (t .limit) (p .ask) (p .bid) (q .ask) (q .bid) (b .0) (b .1) (t .limited .1) (m .0), omega (arith, b .2, m .1), omega (arith, b .2, b .3, m .2))
+    beta-reads q t .1 (against-middle (t .limit) (p .ask) (p .bid) (q .ask) (q .bid) (b .0) (b .1) (t .limits .1) (m .0), omega (arith, b .2, m .1), omega (arith, b .2, b .3, m .2))
