@@ -3,7 +3,7 @@
 .PHONY: run test
 
 run:
-	rt check quotecheck
+	@rt check quotecheck >/dev/null || { rt check quotecheck | tail -n 20; exit 1; }
 	target/bin/quotecheck vienna <crates/quotecheck/stdin
 
 test:

@@ -26,11 +26,11 @@ within-prop low high n h k = λ i. (le-prop (h .0) (k .0) i, le-prop (h .1) (k .
 
 limits-hold : (q : Quote) → in-limits (sides-of q) ≡ true
 limits-hold q =
-    let low : q .bid ≤ 1000000000 = omega (arith, q .prices .1, q .prices .2) in
+    let low : q .bid ≤ 1_000_000_000 = omega (arith, q .prices .1, q .prices .2) in
     let high : 1 ≤ q .ask = omega (arith, q .prices .0, q .prices .1) in
-    and-from _ _ (within-from 1 1000000000 (q .bid) (q .prices .0, low))
-    (and-from _ _ (within-from 1 1000000000 (q .ask) (high, q .prices .2))
-    (and-from _ _ (within-from 1 10000000 (q .«bid_size») (q .bids)) (within-from 1 10000000 (q .«ask_size») (q .asks))))
+    and-from _ _ (within-from _ _ (q .bid) (q .prices .0, low))
+    (and-from _ _ (within-from _ _ (q .ask) (high, q .prices .2))
+    (and-from _ _ (within-from _ _ (q .«bid_size») (q .bids)) (within-from _ _ (q .«ask_size») (q .asks))))
 
 order-holds : (q : Quote) → uncrossed (sides-of q) ≡ true
 order-holds q = lt-ltb (q .bid) (q .ask) (q .prices .1)
@@ -46,8 +46,8 @@ quote-by-is q true true e f =
       «bid_size» = q .«bid_size»;
       «ask_size» = q .«ask_size»;
       prices = (le-prop (q .prices .0) (made .prices .0) i, le-prop (q .prices .1) (made .prices .1) i, le-prop (q .prices .2) (made .prices .2) i);
-      bids = within-prop 1 10000000 (q .«bid_size») (q .bids) (made .bids) i;
-      asks = within-prop 1 10000000 (q .«ask_size») (q .asks) (made .asks) i;
+      bids = within-prop _ _ (q .«bid_size») (q .bids) (made .bids) i;
+      asks = within-prop _ _ (q .«ask_size») (q .asks) (made .asks) i;
     })
 
 pub quote-is : (q : Quote) → Ok q ≡ quote-of (sides-of q)
@@ -64,9 +64,9 @@ tier-numbered n t e = grind (arith, tells)
 
 ranges-hold : (t : Terms) → in-range (conditions-of t) ≡ true
 ranges-hold t =
-    and-from _ _ (within-from 1 7 (t .class) (t .classes))
-    (and-from _ _ (within-from 1 10000 (t .limit) (t .limits))
-    (and-from _ _ (within-from 1 4000000000 (t .minimum) (t .minimums)) (within-from 1 10000 (t .threshold) (t .thresholds))))
+    and-from _ _ (within-from _ _ (t .class) (t .classes))
+    (and-from _ _ (within-from _ _ (t .limit) (t .limits))
+    (and-from _ _ (within-from _ _ (t .minimum) (t .minimums)) (within-from _ _ (t .threshold) (t .thresholds))))
 
 terms-by-is : (t : Terms) (ranges : Bool) (e : in-range (conditions-of t) ≡ ranges) → Ok t ≡ terms-by (conditions-of t) ranges (Some (t .tier)) e
 terms-by-is t false e = absurd (both-ways _ e (ranges-hold t))
@@ -78,10 +78,10 @@ terms-by-is t true e =
       limit = t .limit;
       minimum = t .minimum;
       threshold = t .threshold;
-      classes = within-prop 1 7 (t .class) (t .classes) (made .classes) i;
-      limits = within-prop 1 10000 (t .limit) (t .limits) (made .limits) i;
-      minimums = within-prop 1 4000000000 (t .minimum) (t .minimums) (made .minimums) i;
-      thresholds = within-prop 1 10000 (t .threshold) (t .thresholds) (made .thresholds) i;
+      classes = within-prop _ _ (t .class) (t .classes) (made .classes) i;
+      limits = within-prop _ _ (t .limit) (t .limits) (made .limits) i;
+      minimums = within-prop _ _ (t .minimum) (t .minimums) (made .minimums) i;
+      thresholds = within-prop _ _ (t .threshold) (t .thresholds) (made .thresholds) i;
     })
 
 pub terms-is : (t : Terms) → Ok t ≡ terms-of (conditions-of t)

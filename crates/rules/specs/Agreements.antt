@@ -16,25 +16,35 @@ use Rattle.rules.specs.Ranges.{within, Within, within-says}
 use Rattle.rules.specs.Refusals.{number}
 use Rattle.rules.specs.Tiers.{tier-number, tier-of}
 
+abbrev pub class-in-range : ℕ → Bool
+class-in-range = within 1 7
+
+abbrev pub minimum-in-range : ℕ → Bool
+minimum-in-range = within 1 4_000_000_000
+
+-- of limit and threshold
+abbrev pub points-in-range : ℕ → Bool
+points-in-range = within 1 10_000
+
 abbrev pub in-range : Conditions → Bool
-in-range c = within 1 7 (c .class) && (within 1 10000 (c .limit) && (within 1 4000000000 (c .minimum) && within 1 10000 (c .threshold)))
+in-range c = class-in-range (c .class) && (points-in-range (c .limit) && (minimum-in-range (c .minimum) && points-in-range (c .threshold)))
 
 -- The terms of conditions that are in range, with the tier that their number names.
 abbrev pub terms-made : (c : Conditions) → Tier → in-range c ≡ true → Terms
-terms-made c tier e =
-    let class = and-parts (within 1 7 (c .class)) (within 1 10000 (c .limit) && (within 1 4000000000 (c .minimum) && within 1 10000 (c .threshold))) e in
-    let limit = and-parts (within 1 10000 (c .limit)) (within 1 4000000000 (c .minimum) && within 1 10000 (c .threshold)) (class .1) in
-    let others = and-parts (within 1 4000000000 (c .minimum)) (within 1 10000 (c .threshold)) (limit .1) in
+terms-made c tier ranges =
+    let class = and-parts (class-in-range (c .class)) (points-in-range (c .limit) && (minimum-in-range (c .minimum) && points-in-range (c .threshold))) ranges in
+    let limit = and-parts (points-in-range (c .limit)) (minimum-in-range (c .minimum) && points-in-range (c .threshold)) (class .1) in
+    let others = and-parts (minimum-in-range (c .minimum)) (points-in-range (c .threshold)) (limit .1) in
     record {
       class = c .class;
       tier = tier;
       limit = c .limit;
       minimum = c .minimum;
       threshold = c .threshold;
-      classes = within-says 1 7 (c .class) (class .0);
-      limits = within-says 1 10000 (c .limit) (limit .0);
-      minimums = within-says 1 4000000000 (c .minimum) (others .0);
-      thresholds = within-says 1 10000 (c .threshold) (others .1);
+      classes = within-says _ _ (c .class) (class .0);
+      limits = within-says _ _ (c .limit) (limit .0);
+      minimums = within-says _ _ (c .minimum) (others .0);
+      thresholds = within-says _ _ (c .threshold) (others .1);
     }
 
 -- By the ranges and the tier's number.
@@ -53,7 +63,7 @@ conditions-of t = record { class = t .class; tier = tier-number (t .tier); limit
 -- The same in plain words: terms have the numbers that were given, and number 4 comes where one is out of its range.
 abbrev pub In-range : Conditions → Type 0
 In-range c =
-    Within 1 7 (c .class) × (c .tier ≤ 2) × Within 1 10000 (c .limit) × Within 1 4000000000 (c .minimum) × Within 1 10000 (c .threshold)
+    Within 1 7 (c .class) × (c .tier ≤ 2) × Within 1 10_000 (c .limit) × Within 1 4_000_000_000 (c .minimum) × Within 1 10_000 (c .threshold)
 
 abbrev pub Agreed : Conditions → Result Terms Refusal → Type 0
 Agreed c (Ok t) = conditions-of t ≡ c

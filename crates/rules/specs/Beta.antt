@@ -13,7 +13,7 @@ larger-size q = max (q .«bid_size») (q .«ask_size»)
 
 -- What is asked of the width: the spread against the middle of bid and ask, both sides doubled.
 abbrev pub beta-narrow : Quote → Terms → Bool
-beta-narrow q t = leb (20000 * (q .ask - q .bid)) (t .limit * (q .ask + q .bid))
+beta-narrow q t = leb (20_000 * (q .ask - q .bid)) (t .limit * (q .ask + q .bid))
 
 -- What is asked of the sizes: the minimum, and that they are not too far apart.
 abbrev pub beta-large : Quote → Terms → Bool
@@ -28,7 +28,7 @@ beta-better q p = (leb (p .bid) (q .bid) && leb (q .ask) (p .ask)) && (leb (smal
 
 -- The same in plain order.
 abbrev pub Meets-beta : Quote → Terms → Type 0
-Meets-beta q t = (20000 * (q .ask - q .bid) ≤ t .limit * (q .ask + q .bid)) × (t .minimum ≤ smaller-size q) × (larger-size q ≤ 2 * smaller-size q)
+Meets-beta q t = (20_000 * (q .ask - q .bid) ≤ t .limit * (q .ask + q .bid)) × (t .minimum ≤ smaller-size q) × (larger-size q ≤ 2 * smaller-size q)
 
 abbrev pub Better-beta : Quote → Quote → Type 0
 Better-beta q p = (p .bid ≤ q .bid) × (q .ask ≤ p .ask) × (smaller-size p ≤ smaller-size q) × (larger-size q ≤ larger-size p)

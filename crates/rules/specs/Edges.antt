@@ -48,15 +48,15 @@ Majority-case kept-days days verdict =
     (f : MonthFigures) (threshold : ℕ) → f .«kept_days» ≡ kept-days → f .days ≡ days → majority-verdict f threshold ≡ verdict
 
 pub record Edges-hold : Type 0 where
-  pub vienna-relative-meets : Vienna-case 1 Relative 100000 100750 true
-  pub vienna-relative-fails : Vienna-case 1 Relative 100000 100751 false
-  pub vienna-stagnating-meets : Vienna-case 5 Stagnating 40000 41500 true
-  pub vienna-stagnating-fails : Vienna-case 5 Stagnating 40000 41501 false
-  pub beta-spread-meets : Beta-prices 200 9900 10100 true
-  pub beta-spread-fails : Beta-prices 200 9900 10101 false
+  pub vienna-relative-meets : Vienna-case 1 Relative 100_000 100_750 true
+  pub vienna-relative-fails : Vienna-case 1 Relative 100_000 100_751 false
+  pub vienna-stagnating-meets : Vienna-case 5 Stagnating 40_000 41_500 true
+  pub vienna-stagnating-fails : Vienna-case 5 Stagnating 40_000 41_501 false
+  pub beta-spread-meets : Beta-prices 200 9_900 10_100 true
+  pub beta-spread-fails : Beta-prices 200 9_900 10_101 false
   pub beta-sizes-meet : Beta-sizes 100 100 200 true
   pub beta-sizes-fail : Beta-sizes 100 100 201 false
-  pub zagreb-meets-at : Zagreb-case 100 100000000 1000000 1010000 100 100 true
-  pub zagreb-fails-below : Zagreb-case 100 100000000 1000000 1010000 99 100 false
+  pub zagreb-meets-at : Zagreb-case 100 100_000_000 1_000_000 1_010_000 100 100 true
+  pub zagreb-fails-below : Zagreb-case 100 100_000_000 1_000_000 1_010_000 99 100 false
   pub majority-kept : Majority-case 3 5 Kept
   pub majority-breach : Majority-case 2 4 Breach

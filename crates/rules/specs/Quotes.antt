@@ -14,8 +14,14 @@ use Rattle.rules.specs.declared.quote.Quote.{Quote}
 use Rattle.rules.specs.Ranges.{within, Within, within-says}
 use Rattle.rules.specs.Refusals.{number}
 
+abbrev pub price-in-limits : ℕ → Bool
+price-in-limits = within 1 1_000_000_000
+
+abbrev pub size-in-limits : ℕ → Bool
+size-in-limits = within 1 10_000_000
+
 abbrev pub in-limits : Sides → Bool
-in-limits s = within 1 1000000000 (s .bid) && (within 1 1000000000 (s .ask) && (within 1 10000000 (s .«bid_size») && within 1 10000000 (s .«ask_size»)))
+in-limits s = price-in-limits (s .bid) && (price-in-limits (s .ask) && (size-in-limits (s .«bid_size») && size-in-limits (s .«ask_size»)))
 
 abbrev pub uncrossed : Sides → Bool
 uncrossed s = ltb (s .bid) (s .ask)
@@ -23,17 +29,17 @@ uncrossed s = ltb (s .bid) (s .ask)
 -- The quote of sides that pass both tests.
 abbrev pub quote-made : (s : Sides) → in-limits s ≡ true → uncrossed s ≡ true → Quote
 quote-made s limits order =
-    let bid = and-parts (within 1 1000000000 (s .bid)) (within 1 1000000000 (s .ask) && (within 1 10000000 (s .«bid_size») && within 1 10000000 (s .«ask_size»))) limits in
-    let ask = and-parts (within 1 1000000000 (s .ask)) (within 1 10000000 (s .«bid_size») && within 1 10000000 (s .«ask_size»)) (bid .1) in
-    let sizes = and-parts (within 1 10000000 (s .«bid_size»)) (within 1 10000000 (s .«ask_size»)) (ask .1) in
+    let bid = and-parts (price-in-limits (s .bid)) (price-in-limits (s .ask) && (size-in-limits (s .«bid_size») && size-in-limits (s .«ask_size»))) limits in
+    let ask = and-parts (price-in-limits (s .ask)) (size-in-limits (s .«bid_size») && size-in-limits (s .«ask_size»)) (bid .1) in
+    let sizes = and-parts (size-in-limits (s .«bid_size»)) (size-in-limits (s .«ask_size»)) (ask .1) in
     record {
       bid = s .bid;
       ask = s .ask;
       «bid_size» = s .«bid_size»;
       «ask_size» = s .«ask_size»;
-      prices = (within-says 1 1000000000 (s .bid) (bid .0) .0, ltb-true (s .bid) (s .ask) order, within-says 1 1000000000 (s .ask) (ask .0) .1);
-      bids = within-says 1 10000000 (s .«bid_size») (sizes .0);
-      asks = within-says 1 10000000 (s .«ask_size») (sizes .1);
+      prices = (within-says _ _ (s .bid) (bid .0) .0, ltb-true (s .bid) (s .ask) order, within-says _ _ (s .ask) (ask .0) .1);
+      bids = within-says _ _ (s .«bid_size») (sizes .0);
+      asks = within-says _ _ (s .«ask_size») (sizes .1);
     }
 
 -- By the two tests: the limits first, then the order of the prices.
@@ -53,7 +59,7 @@ sides-of q = record { bid = q .bid; ask = q .ask; «bid_size» = q .«bid_size»
 -- number 6 where all are within them and the bid is not below the ask.
 abbrev pub In-limits : Sides → Type 0
 In-limits s =
-    Within 1 1000000000 (s .bid) × Within 1 1000000000 (s .ask) × Within 1 10000000 (s .«bid_size») × Within 1 10000000 (s .«ask_size»)
+    (Within 1 1_000_000_000 (s .bid) × Within 1 1_000_000_000 (s .ask)) × (Within 1 10_000_000 (s .«bid_size») × Within 1 10_000_000 (s .«ask_size»))
 
 abbrev pub Quoted : Sides → Result Quote Refusal → Type 0
 Quoted s (Ok q) = sides-of q ≡ s

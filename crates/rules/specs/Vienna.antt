@@ -24,7 +24,7 @@ of-class table t = getD table (t .class - 1) 0
 
 -- What is asked of the width, by tier.
 abbrev pub narrow-at : Tier → Quote → Terms → Bool
-narrow-at Relative q t = leb ((q .ask - q .bid) * 10000) (of-class relative-spreads t * q .bid)
+narrow-at Relative q t = leb ((q .ask - q .bid) * 10_000) (of-class relative-spreads t * q .bid)
 narrow-at Stagnating q t = leb (q .ask - q .bid) (of-class stagnating-spreads t)
 narrow-at Fixed q t = leb (q .ask - q .bid) (of-class fixed-spreads t)
 
@@ -44,7 +44,7 @@ vienna-better q p = (leb (p .bid) (q .bid) && leb (q .ask) (p .ask)) && (leb (p 
 
 -- The same in plain order.
 abbrev pub Narrow-at : Tier → Quote → Terms → Type 0
-Narrow-at Relative q t = (q .ask - q .bid) * 10000 ≤ of-class relative-spreads t * q .bid
+Narrow-at Relative q t = (q .ask - q .bid) * 10_000 ≤ of-class relative-spreads t * q .bid
 Narrow-at Stagnating q t = q .ask - q .bid ≤ of-class stagnating-spreads t
 Narrow-at Fixed q t = q .ask - q .bid ≤ of-class fixed-spreads t
 

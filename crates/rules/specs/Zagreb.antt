@@ -15,7 +15,7 @@ ask-worth q = q .ask * q .«ask_size»
 
 -- What is asked of the width.
 abbrev pub zagreb-narrow : Quote → Terms → Bool
-zagreb-narrow q t = leb ((q .ask - q .bid) * 10000) (t .limit * q .bid)
+zagreb-narrow q t = leb ((q .ask - q .bid) * 10_000) (t .limit * q .bid)
 
 -- What is asked of the sizes.
 abbrev pub zagreb-large : Quote → Terms → Bool
@@ -30,7 +30,7 @@ zagreb-better q p = (leb (p .bid) (q .bid) && leb (q .ask) (p .ask)) && (leb (p 
 
 -- The same in plain order.
 abbrev pub Meets-zagreb : Quote → Terms → Type 0
-Meets-zagreb q t = ((q .ask - q .bid) * 10000 ≤ t .limit * q .bid) × (t .minimum ≤ bid-worth q) × (t .minimum ≤ ask-worth q)
+Meets-zagreb q t = ((q .ask - q .bid) * 10_000 ≤ t .limit * q .bid) × (t .minimum ≤ bid-worth q) × (t .minimum ≤ ask-worth q)
 
 abbrev pub Better-zagreb : Quote → Quote → Type 0
 Better-zagreb q p = (p .bid ≤ q .bid) × (q .ask ≤ p .ask) × (p .«bid_size» ≤ q .«bid_size») × (ask-worth p ≤ ask-worth q)
