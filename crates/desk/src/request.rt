@@ -1,16 +1,10 @@
 // What a line asks of the desk.
 ghost use mathlib.Core.Path.{_≡_};
-ghost use mathlib.Core.List.{map};
-ghost use denote.Ref.{now as behind};
-ghost use Rattle.std.specs.Vec.{made};
-ghost use Rattle.std.specs.declared.option.Option.the-variants.{Some};
-ghost use Rattle.desk.specs.Requests.{request-of, asked-by, asked, terms-asked, quote-asked};
-use lines::numbers::read_numbers;
-use lines::words::split_words;
+ghost use Rattle.lines.specs.Words.{words-left};
+ghost use Rattle.desk.specs.Requests.{request-of, asked, terms-asked, quote-asked};
+use lines::words::Words;
 use rules::conditions::Conditions;
 use rules::sides::Sides;
-use std::alloc::AllocError;
-use std::alloc::Global;
 
 #[derive(Clone, Copy)]
 pub enum Request {
@@ -22,65 +16,58 @@ pub enum Request {
 
 impl Request {
     // What the line asks. An empty line and one that begins with # ask nothing.
-    pub fn read(heap: Global, line: &str) -> Result<Request, AllocError>
-        ensures { λ r. ⌜ made r (λ q. q ≡ request-of (now (line .entry))) ⌝ }
+    pub fn read(line: &str) -> Request
+        ensures { λ r. ⌜ r ≡ request-of (now (line .entry)) ⌝ }
     {
         if line.is_empty() || line.starts_with('#') {
-            return Ok(Request::Silent);
+            return Request::Silent;
         }
-        let words = split_words(heap, line)?;
-        Request::from_words(heap, &words)
-    }
-
-    fn from_words(heap: Global, words: &[&str]) -> Result<Request, AllocError>
-        ensures { λ r. ⌜ made r (λ q. q ≡ asked-by (map behind (now (words .entry)))) ⌝ }
-    {
-        match words {
-            [] => Ok(Request::Unreadable),
-            [first, rest @ ..] => match read_numbers(heap, rest)? {
-                Some(numbers) => Ok(Request::asked(first, &numbers)),
-                None => Ok(Request::Unreadable),
-            },
+        let mut words = Words::of(line);
+        match words.next_word() {
+            Some(first) => Request::asked(first, words),
+            None => Request::Unreadable,
         }
     }
 
     // By the first word and the numbers behind it.
-    fn asked(word: &str, numbers: &[u32]) -> Request
-        ensures { λ r. ⌜ r ≡ asked (now (word .entry)) (Some (now (numbers .entry))) ⌝ }
+    fn asked(first: &str, rest: Words) -> Request
+        ensures { λ r. ⌜ r ≡ asked (now (first .entry)) (words-left (rest .entry)) ⌝ }
     {
-        match word {
-            "terms" => Request::terms(numbers),
-            "quote" => Request::quote(numbers),
+        match first {
+            "terms" => Request::terms(rest.numbers()),
+            "quote" => Request::quote(rest.numbers()),
             _ => Request::Unreadable,
         }
     }
 
-    fn terms(numbers: &[u32]) -> Request
-        ensures { λ r. ⌜ r ≡ terms-asked (now (numbers .entry)) ⌝ }
+    fn terms(numbers: Option<[u32; 5]>) -> Request
+        ensures { λ r. ⌜ r ≡ terms-asked numbers ⌝ }
     {
-        match *numbers {
-            [class, tier, threshold, limit, minimum] => Request::Terms(Conditions {
-                class,
-                tier,
-                limit,
-                minimum,
-                threshold,
-            }),
-            _ => Request::Unreadable,
-        }
+        let Some(numbers) = numbers else {
+            return Request::Unreadable;
+        };
+        let [class, tier, threshold, limit, minimum] = numbers;
+        Request::Terms(Conditions {
+            class,
+            tier,
+            limit,
+            minimum,
+            threshold,
+        })
     }
 
-    fn quote(numbers: &[u32]) -> Request
-        ensures { λ r. ⌜ r ≡ quote-asked (now (numbers .entry)) ⌝ }
+    fn quote(numbers: Option<[u32; 4]>) -> Request
+        ensures { λ r. ⌜ r ≡ quote-asked numbers ⌝ }
     {
-        match *numbers {
-            [bid, ask, bid_size, ask_size] => Request::Quote(Sides {
-                bid,
-                ask,
-                bid_size,
-                ask_size,
-            }),
-            _ => Request::Unreadable,
-        }
+        let Some(numbers) = numbers else {
+            return Request::Unreadable;
+        };
+        let [bid, ask, bid_size, ask_size] = numbers;
+        Request::Quote(Sides {
+            bid,
+            ask,
+            bid_size,
+            ask_size,
+        })
     }
 }

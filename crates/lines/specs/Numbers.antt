@@ -2,7 +2,7 @@
 use Prim.Native.Nat.{ℕ, _+_, _-_, _*_, _^_}
 use mathlib.Core.Bool.{cond, _&&_}
 use mathlib.Core.List.{List, [], _∷_}
-use lib.Dec.{ltb}
+use lib.Dec.{eqb, ltb}
 use lib.ListN.{length}
 use Rattle.std.specs.shelf.Text.{allDigits}
 use Rattle.std.specs.declared.option.Option.{Option}
@@ -26,3 +26,8 @@ before (Some n) (Some ns) = Some (n ∷ ns)
 abbrev pub numbers-of : List (List ℕ) → Option (List ℕ)
 numbers-of [] = Some []
 numbers-of (w ∷ ws) = before (number-of w) (numbers-of ws)
+
+-- Just n numbers.
+abbrev pub exactly : ℕ → Option (List ℕ) → Option (List ℕ)
+exactly n None = None
+exactly n (Some ns) = cond (eqb (length ns) n) (Some ns) None

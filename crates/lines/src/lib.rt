@@ -1,3 +1,4 @@
-// Lines of text that people and scripts write: `words` takes a line apart, `numbers` reads the numbers that words write.
-pub mod numbers;
+// Lines of text that people and scripts write: `words` takes a line apart, word by word, and `number` reads the number
+// that a word writes. Nothing is allocated.
+pub mod number;
 pub mod words;

@@ -1,26 +1,56 @@
-// The words of a line, parted by single spaces.
+// The words of a line, parted by single spaces, one after the other.
 ghost use mathlib.Core.Path.{_≡_};
-ghost use mathlib.Core.List.{List, map};
-ghost use Prim.Native.Nat.{ℕ, _<_};
-ghost use lib.ListN.{getD};
-ghost use denote.Ref.{now as behind, RefT};
-ghost use Rattle.std.specs.Of.Vec.{vec-items, vec-len};
-ghost use Rattle.std.specs.Pieces.{rejoined, Lacks};
-ghost use Rattle.std.specs.Vec.{made};
-ghost use Rattle.lines.specs.Words.{words};
-use std::alloc::AllocError;
-use std::alloc::Global;
+ghost use mathlib.Core.List.{_∷_};
+ghost use denote.Ref.{now as behind};
+ghost use lib.ListN.{drop};
+ghost use Rattle.std.specs.Options.{mapped};
+ghost use Rattle.lines.specs.Numbers.{numbers-of, exactly};
+ghost use Rattle.lines.specs.Words.{words, first, of-rest, words-left};
+use crate::number::read_number;
 
-fn pieces<'a>(heap: Global, line: &'a str) -> Result<Vec<&'a str>, AllocError>
-    ensures whole { λ r. ⌜ made r (λ v. rejoined 32 (map behind (vec-items v)) ≡ now (line .entry)) ⌝ }
-    ensures some { λ r. ⌜ made r (λ v. 0 < vec-len v) ⌝ }
-    ensures parted { λ r. ⌜ made r (λ v. (k : ℕ) (d : RefT (List ℕ)) → k < vec-len v → Lacks 32 (behind (getD (vec-items v) k d))) ⌝ }
-{
-    line.split(' ').collect(heap)
+#[derive(Clone, Copy)]
+pub struct Words<'a> {
+    rest: Option<&'a str>,
 }
 
-pub fn split_words<'a>(heap: Global, line: &'a str) -> Result<Vec<&'a str>, AllocError>
-    ensures { λ r. ⌜ made r (λ v. map behind (vec-items v) ≡ words (now (line .entry))) ⌝ }
+// The first word of a text, and what stands behind its space.
+fn cut<'a>(text: &'a str) -> (&'a str, Option<&'a str>)
+    ensures { λ r. ⌜ words (now (text .entry)) ≡ behind (r .0) ∷ of-rest (r .1) ⌝ }
 {
-    pieces(heap, line)
+    match text.split_once(' ') {
+        Some((word, rest)) => (word, Some(rest)),
+        None => (text, None),
+    }
+}
+
+impl<'a> Words<'a> {
+    pub fn of(line: &'a str) -> Words<'a>
+        ensures { λ r. ⌜ words-left r ≡ words (now (line .entry)) ⌝ }
+    {
+        Words { rest: Some(line) }
+    }
+
+    // The next word, or nothing where none is left.
+    pub fn next_word(&mut self) -> Option<&'a str>
+        ensures value { λ r. ⌜ mapped behind r ≡ first (words-left (now (self .entry))) ⌝ }
+        ensures after { λ _. ⌜ words-left (now (self .exit)) ≡ drop 1 (words-left (now (self .entry))) ⌝ }
+    {
+        let (word, rest) = cut(self.rest?);
+        self.rest = rest;
+        Some(word)
+    }
+
+    // The numbers of the words that are left, where there are just N and each writes one.
+    pub fn numbers<const N: usize>(mut self) -> Option<[u32; N]>
+        ensures { λ r. ⌜ r ≡ exactly N (numbers-of (words-left (self .entry))) ⌝ }
+    {
+        let mut numbers = [0; N];
+        for i in 0..N {
+            numbers[i] = read_number(self.next_word()?)?;
+        }
+        if self.next_word().is_some() {
+            return None;
+        }
+        Some(numbers)
+    }
 }

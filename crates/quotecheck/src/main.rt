@@ -72,7 +72,7 @@ fn judge_line<Q: QuoteRule + Drop>(
 ) -> io::Result<()> {
     let text = String::from_utf8_lossy(rt.alloc(), bytes)?;
     let line = text.strip_suffix('\r').unwrap_or(text.as_str());
-    let request = Request::read(rt.alloc(), line)?;
+    let request = Request::read(line);
     if let Some(reply) = desk.answer(&request) {
         println!(rt, "{line} => {reply}")?;
     }

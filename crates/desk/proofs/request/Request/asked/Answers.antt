@@ -6,4 +6,4 @@ use Rattle.desk.proofs.request.Request.asked.Needs as need
 
 pub returns-in-rest : need.returns-in-rest
 returns-in-rest c =
-    sym (cond-false _ _ _ (not-same (c .args .word .now) (codes "terms") (c .in-rest .not-terms)) ∙ cond-false _ _ _ (not-same (c .args .word .now) (codes "quote") (c .in-rest .not-quote)))
+    sym (cond-false _ _ _ (not-same (c .args .first .now) (codes "terms") (c .in-rest .not-terms)) ∙ cond-false _ _ _ (not-same (c .args .first .now) (codes "quote") (c .in-rest .not-quote)))

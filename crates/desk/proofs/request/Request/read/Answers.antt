@@ -1,17 +1,19 @@
-use mathlib.Core.Path.{_≡_, refl, sym, ap, _∙_}
-use mathlib.Core.List.{List, map}
-use Prim.Native.Nat.{ℕ}
-use native.Mathlib.Omega.{arith}
-use denote.Ref.{now, RefT}
-use lib.Utf8.{encode}
+use mathlib.Core.Path.{_≡_, sym, ap, _∙_}
+use lib.Dec.{lit<}
+use lib.ListN.{drop}
+use Rattle.lines.specs.Words.{words, first, words-left}
 use Rattle.lines.proofs.Readings.{not-first}
-use Rattle.desk.proofs.Asking.{line-asked}
+use Rattle.desk.proofs.Asking.{first-asked, none-asked, spoken}
 use Rattle.desk.proofs.request.Request.read.Needs as need
 
-pub returns : need.returns
-unfolding encode
-returns c =
-    line-asked (c .args .line .now) _ (c .from-words .result) (sym (c .if-is-empty .ensures tt))
-    (not-first 35 (c .args .line .now) (omega arith) refl (c .if-starts-with .ensures tt .cases))
-    (ap (λ (xs : List (RefT (List ℕ))). map now xs) (c .deref .ensures .value) ∙ c .in-Continue-words .ensures tt)
-    (c .from-words .ensures)
+pub returns-in-Some : need.returns-in-Some
+returns-in-Some c =
+    c .asked .ensures
+    ∙ (first-asked (words (c .args .line .now)) (words-left (c .next-word .last .self)) (c .in-Some .first .now)
+    (c .in-Some .ensures tt .value ∙ ap first (c .of-words .ensures)) (c .in-Some .ensures tt .after ∙ ap (drop 1) (c .of-words .ensures))
+    ∙ spoken (c .args .line .now) (sym (c .if-is-empty .ensures tt)) (not-first 35 (lit< tt) (lit< tt) (c .args .line .now) (c .starts-with .result) (c .starts-with .ensures .cases) (c .if-starts-with .left)))
+
+pub returns-in-None : need.returns-in-None
+returns-in-None c =
+    none-asked (words (c .args .line .now)) (c .in-None .ensures tt .value ∙ ap first (c .of-words .ensures))
+    ∙ spoken (c .args .line .now) (sym (c .if-is-empty .ensures tt)) (not-first 35 (lit< tt) (lit< tt) (c .args .line .now) (c .starts-with .result) (c .starts-with .ensures .cases) (c .if-starts-with .left))
