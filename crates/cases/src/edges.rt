@@ -1,5 +1,5 @@
 // The edges of the three markets: those that are proved, and those that are only run.
-use crate::edge::check_edges;
+use crate::table::check_rows;
 use rules::beta::Beta;
 use rules::beta::BetaRule;
 use rules::vienna::Vienna;
@@ -10,7 +10,7 @@ use std::test::*;
 
 #[test]
 fn vienna_edges() -> Result<(), Fail> {
-    check_edges(
+    check_rows(
         &Vienna,
         &[
             ((1, 0, 1, 300), (100_000, 100_750, 300, 300), true),
@@ -29,31 +29,55 @@ fn vienna_edges() -> Result<(), Fail> {
     )
 }
 
-// 10,000 and 10,100 euro
-const LEAST: u32 = 100_000_000;
+// amounts in ten-thousandths of a euro
+const EURO_10_000: u32 = 100_000_000;
 
-const MORE: u32 = 101_000_000;
+const EURO_10_100: u32 = 101_000_000;
 
 #[test]
 fn zagreb_edges() -> Result<(), Fail> {
-    check_edges(
+    check_rows(
         &Zagreb,
         &[
-            ((1, 0, 100, LEAST), (1_000_000, 1_010_000, 100, 100), true),
-            ((1, 0, 100, LEAST), (1_000_000, 1_010_000, 99, 100), false),
-            ((1, 0, 100, LEAST), (1_000_000, 1_010_001, 100, 100), false),
+            (
+                (1, 0, 100, EURO_10_000),
+                (1_000_000, 1_010_000, 100, 100),
+                true,
+            ),
+            (
+                (1, 0, 100, EURO_10_000),
+                (1_000_000, 1_010_000, 99, 100),
+                false,
+            ),
+            (
+                (1, 0, 100, EURO_10_000),
+                (1_000_000, 1_010_001, 100, 100),
+                false,
+            ),
             // a lower ask with the same size is worth less
-            ((1, 0, 100, MORE), (1_000_000, 1_010_000, 101, 100), true),
-            ((1, 0, 100, MORE), (1_000_000, 1_004_000, 101, 100), false),
+            (
+                (1, 0, 100, EURO_10_100),
+                (1_000_000, 1_010_000, 101, 100),
+                true,
+            ),
+            (
+                (1, 0, 100, EURO_10_100),
+                (1_000_000, 1_004_000, 101, 100),
+                false,
+            ),
             // class and tier are not read
-            ((7, 2, 100, LEAST), (1_000_000, 1_010_000, 100, 100), true),
+            (
+                (7, 2, 100, EURO_10_000),
+                (1_000_000, 1_010_000, 100, 100),
+                true,
+            ),
         ],
     )
 }
 
 #[test]
 fn beta_edges() -> Result<(), Fail> {
-    check_edges(
+    check_rows(
         &Beta,
         &[
             ((1, 0, 200, 100), (9_900, 10_100, 100, 100), true),

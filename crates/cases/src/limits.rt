@@ -76,7 +76,22 @@ fn terms() -> Result<(), Fail> {
         (high, 0),
         (Conditions { class: 0, ..low }, 4),
         (Conditions { class: 8, ..high }, 4),
+        // what would wrap round in fewer bits
         (Conditions { class: 257, ..low }, 4),
+        (
+            Conditions {
+                limit: 65_537,
+                ..low
+            },
+            4,
+        ),
+        (
+            Conditions {
+                threshold: 65_537,
+                ..low
+            },
+            4,
+        ),
         (Conditions { tier: 3, ..high }, 4),
         (Conditions { limit: 0, ..low }, 4),
         (

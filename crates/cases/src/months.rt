@@ -36,7 +36,15 @@ fn ratios() -> Result<(), Fail> {
         kept_days: 31,
     };
     check_eq(Ratio.verdict(&largest, 10_000), Verdict::Kept)?;
-    check_eq(Ratio.verdict(&largest, 10_001), Verdict::Breach)
+    check_eq(Ratio.verdict(&largest, 10_001), Verdict::Breach)?;
+    // nothing was owed
+    let idle = MonthFigures {
+        obliged: 0,
+        qualified: 0,
+        days: 5,
+        kept_days: 0,
+    };
+    check_eq(Ratio.verdict(&idle, 10_000), Verdict::Kept)
 }
 
 #[test]
@@ -48,6 +56,9 @@ fn majorities() -> Result<(), Fail> {
         (1, 1, Verdict::Kept),
         (15, 31, Verdict::Breach),
         (16, 31, Verdict::Kept),
+        (u32::MAX, u32::MAX, Verdict::Kept),
+        (2_147_483_647, u32::MAX, Verdict::Breach),
+        (2_147_483_648, u32::MAX, Verdict::Kept),
     ];
     for (kept_days, days, verdict) in cases {
         let month = MonthFigures {

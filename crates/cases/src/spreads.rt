@@ -1,5 +1,5 @@
 // Vienna's tables from a second listing, class by class, in hundredths of a per cent and in cents.
-use crate::edge::check_edges;
+use crate::table::check_rows;
 use rules::vienna::Vienna;
 use rules::vienna::ViennaRule;
 use std::test::*;
@@ -21,7 +21,7 @@ fn check_widest(class: u32, tier: u32, widest: u32) -> Result<(), Fail> {
     let ask = 1_000_000u32.saturating_add(widest);
     let at = (given, (1_000_000, ask, 1, 1), true);
     let over = (given, (1_000_000, ask.saturating_add(1), 1, 1), false);
-    check_edges(&Vienna, &[at, over]).note(format_args!("class {class}, tier {tier}"))
+    check_rows(&Vienna, &[at, over]).note(format_args!("class {class}, tier {tier}"))
 }
 
 #[test]

@@ -12,9 +12,9 @@ use Rattle.std.specs.declared.result.Result.the-variants.{Ok, Err}
 use Rattle.rules.specs.declared.quote.Quote.{Quote}
 use Rattle.rules.specs.declared.terms.Terms.{Terms}
 use Rattle.rules.specs.declared.refusal.Refusal.{Refusal}
-use Rattle.rules.specs.Refusals.{number}
+use Rattle.rules.specs.Refusals.{refusal-number}
 use Rattle.rules.specs.Quotes.{quote-of, sides-of}
-use Rattle.rules.specs.Agreements.{terms-of}
+use Rattle.rules.specs.Terms.{terms-of}
 use Rattle.desk.specs.declared.request.Request.{Request}
 use Rattle.desk.specs.declared.request.Request.the-variants as request
 use Rattle.desk.specs.declared.reply.Reply.{Reply}
@@ -26,28 +26,32 @@ abbrev pub reply-text : Reply → List ℕ
 reply-text Accepted = codes "accepted"
 reply-text Meets = codes "meets"
 reply-text DoesNotMeet = codes "does not meet"
-reply-text (Refused e) = codes "refused " ++ decimal (number e)
+reply-text (Refused e) = codes "refused " ++ decimal (refusal-number e)
 reply-text Unreadable = codes "unreadable"
 
--- To terms: accepted, or refused.
-abbrev pub agreed : Result Terms Refusal → Reply
-agreed (Ok t) = Accepted
-agreed (Err e) = Refused e
+-- A line with what came of it.
+abbrev pub answer-text : List ℕ → Reply → List ℕ
+answer-text line reply = line ++ (codes " => " ++ reply-text reply)
 
--- To a quote: judged against the terms that stand, or refused; unreadable where none stand.
+-- The reply to terms: accepted, or refused.
+abbrev pub terms-reply : Result Terms Refusal → Reply
+terms-reply (Ok t) = Accepted
+terms-reply (Err e) = Refused e
+
+-- The reply to a quote: judged against the terms that stand, or refused; unreadable where none stand.
 abbrev pub told : Bool → Reply
 told true = Meets
 told false = DoesNotMeet
 
-abbrev pub judged : (Quote → Terms → Bool) → Option Terms → Result Quote Refusal → Reply
-judged meets None q = Unreadable
-judged meets (Some t) (Ok q) = told (meets q t)
-judged meets (Some t) (Err e) = Refused e
+abbrev pub quote-reply : (Quote → Terms → Bool) → Option Terms → Result Quote Refusal → Reply
+quote-reply meets None q = Unreadable
+quote-reply meets (Some t) (Ok q) = told (meets q t)
+quote-reply meets (Some t) (Err e) = Refused e
 
 abbrev pub reply-to : (Quote → Terms → Bool) → Option Terms → Request → Option Reply
 reply-to meets standing request.Silent = None
-reply-to meets standing (request.Terms given) = Some (agreed (terms-of given))
-reply-to meets standing (request.Quote sides) = Some (judged meets standing (quote-of sides))
+reply-to meets standing (request.Terms given) = Some (terms-reply (terms-of given))
+reply-to meets standing (request.Quote sides) = Some (quote-reply meets standing (quote-of sides))
 reply-to meets standing request.Unreadable = Some Unreadable
 
 -- The terms that stand after a request: new ones where they are accepted, and else those that stood.

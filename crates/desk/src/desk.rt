@@ -1,9 +1,9 @@
 // The desk: one quote rule, and the terms that stand.
 ghost use mathlib.Core.Path.{_≡_};
 ghost use Rattle.std.specs.declared.option.Option.the-variants.{None};
-ghost use Rattle.rules.specs.Agreements.{terms-of};
+ghost use Rattle.rules.specs.Terms.{terms-of};
 ghost use Rattle.rules.specs.Quotes.{quote-of};
-ghost use Rattle.desk.specs.Replies.{agreed, replaced, judged, reply-to, standing-after, tallied, Better-keeps-meeting};
+ghost use Rattle.desk.specs.Replies.{terms-reply, replaced, quote-reply, reply-to, standing-after, tallied, Better-keeps-meeting};
 ghost use Rattle.desk.specs.Tallies.{none-judged};
 use crate::reply::Reply;
 use crate::request::Request;
@@ -50,7 +50,7 @@ impl<Q: QuoteRule + Drop> Desk<Q> {
 
     // Sets the terms, where they are lawful.
     fn agree(&mut self, given: Conditions) -> Reply
-        ensures reply { λ r. ⌜ r ≡ agreed (terms-of given) ⌝ }
+        ensures reply { λ r. ⌜ r ≡ terms-reply (terms-of given) ⌝ }
         ensures standing { λ _. ⌜ now (self .exit) .standing ≡ replaced (now (self .entry) .standing) (terms-of given) ⌝ }
         ensures tally { λ _. ⌜ now (self .exit) .tally ≡ now (self .entry) .tally ⌝ }
         ensures rule { λ _. ⌜ now (self .exit) .rule ≡ now (self .entry) .rule ⌝ }
@@ -66,7 +66,7 @@ impl<Q: QuoteRule + Drop> Desk<Q> {
 
     // Holds a quote against the terms that stand.
     fn judge(&self, sides: Sides) -> Reply
-        ensures { λ r. ⌜ r ≡ judged (Q·QuoteRule .meets (now (self .entry) .rule)) (now (self .entry) .standing) (quote-of sides) ⌝ }
+        ensures { λ r. ⌜ r ≡ quote-reply (Q·QuoteRule .meets (now (self .entry) .rule)) (now (self .entry) .standing) (quote-of sides) ⌝ }
     {
         let Some(terms) = self.standing else {
             return Reply::Unreadable;

@@ -7,22 +7,25 @@ use std::fmt;
 
 #[derive(Clone, Copy)]
 pub struct Tally {
-    pub meet: u64,
-    pub do_not: u64,
+    meet: u64,
+    do_not_meet: u64,
 }
 
 impl Tally {
     pub fn new() -> Tally
         ensures { λ r. ⌜ r ≡ none-judged ⌝ }
     {
-        Tally { meet: 0, do_not: 0 }
+        Tally {
+            meet: 0,
+            do_not_meet: 0,
+        }
     }
 
     // All quotes judged.
     pub fn judged(&self) -> u64
         ensures { λ r. ⌜ r ≡ judged-in (now (self .entry)) ⌝ }
     {
-        self.meet.saturating_add(self.do_not)
+        self.meet.saturating_add(self.do_not_meet)
     }
 
     // One reply more: only a judged quote counts.
@@ -31,7 +34,7 @@ impl Tally {
     {
         match reply {
             Reply::Meets => self.meet = self.meet.saturating_add(1),
-            Reply::DoesNotMeet => self.do_not = self.do_not.saturating_add(1),
+            Reply::DoesNotMeet => self.do_not_meet = self.do_not_meet.saturating_add(1),
             Reply::Accepted | Reply::Refused(_) | Reply::Unreadable => {}
         }
     }
@@ -43,10 +46,10 @@ pub impl fmt::Display for Tally as TallyDisplay {
     fn fmt<W: fmt::Write>(&self, f: &mut fmt::Formatter<W>) -> fmt::Result {
         let judged = self.judged();
         let meet = self.meet;
-        let do_not = self.do_not;
+        let do_not_meet = self.do_not_meet;
         write!(
             f,
-            "quotes judged: {judged}, meet: {meet}, do not meet: {do_not}"
+            "quotes judged: {judged}, meet: {meet}, do not meet: {do_not_meet}"
         )
     }
 }

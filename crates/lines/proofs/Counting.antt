@@ -1,10 +1,9 @@
 -- Just n numbers, read one word at a time.
-use Prim.Native.Nat.{ℕ, _+_, _<_, _≤_}
+use Prim.Native.Nat.{ℕ, _+_, _<_}
 use mathlib.Core.Path.{_≡_, refl, sym, ap, _∙_}
-use mathlib.Core.Bool.{true, false, cond}
+use mathlib.Core.Bool.{true, false}
 use mathlib.Core.List.{List, [], _∷_, _++_, append-assoc, append-nil}
 use native.Mathlib.Omega.{arith}
-use lib.Dec.{eqb}
 use lib.ListN.{length, drop, length-append}
 use Rattle.std.specs.Options.{mapped, isSome}
 use Rattle.std.proofs.shelf.Tests.{both-ways, eq-eqb, ne-eqb, cond-true, cond-false}

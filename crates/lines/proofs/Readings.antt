@@ -19,7 +19,6 @@ use Rattle.std.specs.Pieces.{Lacks}
 use Rattle.std.specs.Results.{okPart}
 use Rattle.std.specs.Words.{Boundary}
 use Rattle.std.specs.shelf.Text.{allDigits}
-use Rattle.std.specs.declared.option.Option.{Option}
 use Rattle.std.specs.declared.option.Option.the-variants.{Some, None}
 use Rattle.std.specs.declared.result.Result.{Result}
 use Rattle.std.specs.declared.result.Result.the-variants.{Ok, Err}

@@ -1,7 +1,6 @@
 // The words of a line, parted by single spaces, one after the other.
 ghost use mathlib.Core.Path.{_≡_};
 ghost use mathlib.Core.List.{_∷_};
-ghost use denote.Ref.{now as behind};
 ghost use lib.ListN.{drop};
 ghost use Rattle.std.specs.Options.{mapped};
 ghost use Rattle.lines.specs.Numbers.{numbers-of, exactly};
@@ -15,7 +14,7 @@ pub struct Words<'a> {
 
 // The first word of a text, and what stands behind its space.
 fn cut<'a>(text: &'a str) -> (&'a str, Option<&'a str>)
-    ensures { λ r. ⌜ words (now (text .entry)) ≡ behind (r .0) ∷ of-rest (r .1) ⌝ }
+    ensures { λ r. ⌜ words (now (text .entry)) ≡ now (r .0) ∷ of-rest (r .1) ⌝ }
 {
     match text.split_once(' ') {
         Some((word, rest)) => (word, Some(rest)),
@@ -32,7 +31,7 @@ impl<'a> Words<'a> {
 
     // The next word, or nothing where none is left.
     pub fn next_word(&mut self) -> Option<&'a str>
-        ensures value { λ r. ⌜ mapped behind r ≡ first (words-left (now (self .entry))) ⌝ }
+        ensures value { λ r. ⌜ mapped now r ≡ first (words-left (now (self .entry))) ⌝ }
         ensures after { λ _. ⌜ words-left (now (self .exit)) ≡ drop 1 (words-left (now (self .entry))) ⌝ }
     {
         let (word, rest) = cut(self.rest?);

@@ -1,9 +1,11 @@
 // quotecheck RULE: judges quotes, line by line, by the rule of one market.
+use desk::answered::Answered;
+use desk::answered::AnsweredDisplay;
 use desk::desk::Desk;
 use desk::market::Market;
-use desk::reply::ReplyDisplay;
 use desk::request::Request;
 use desk::tally::TallyDisplay;
+use lines::line_end::strip_return;
 use rules::beta::Beta;
 use rules::beta::BetaRule;
 use rules::quote_rule::QuoteRule;
@@ -33,7 +35,7 @@ fn main(rt: LibcRuntime) -> io::Result<()> {
     }
 }
 
-// The market that the one argument names.
+// The market that the one argument names; none where there is no such argument or more than one.
 fn chosen_market(rt: &LibcRuntime) -> Option<Market> {
     let mut args = env::args(rt).ok()?;
     let _program = args.next()?;
@@ -54,27 +56,26 @@ fn run<Q: QuoteRule + Drop>(rt: &LibcRuntime, rule: Q) -> io::Result<()> {
 }
 
 fn judge_lines<Q: QuoteRule + Drop>(rt: &LibcRuntime, rule: Q) -> io::Result<()> {
+    // what is proved of the rules as they are written; at run time the two do nothing
     edges_hold();
     better_reads_plainly();
     let mut desk = Desk::new(rule);
     for line in BufReader::new(rt.stdin()).split(rt.alloc(), b'\n') {
         judge_line(rt, &mut desk, &line?)?;
     }
-    let tally = desk.tally();
-    println!(rt, "{tally}")
+    rt.println(desk.tally())
 }
 
-// Prints the line with what came of it. Bytes that are no text are shown by a mark, and so are unreadable.
+// Prints the line with what came of it. Bytes that are no text are shown by a mark.
 fn judge_line<Q: QuoteRule + Drop>(
     rt: &LibcRuntime,
     desk: &mut Desk<Q>,
     bytes: &[u8],
 ) -> io::Result<()> {
     let text = String::from_utf8_lossy(rt.alloc(), bytes)?;
-    let line = text.strip_suffix('\r').unwrap_or(text.as_str());
-    let request = Request::read(line);
-    if let Some(reply) = desk.answer(&request) {
-        println!(rt, "{line} => {reply}")?;
+    let line = strip_return(text.as_str());
+    match desk.answer(&Request::read(line)) {
+        Some(reply) => rt.println(Answered { line, reply }),
+        None => Ok(()),
     }
-    Ok(())
 }

@@ -1,5 +1,5 @@
 -- A quote is the quote of its own sides, and terms are the terms of their own numbers.
-use Prim.Native.Nat.{ℕ, _≤_, _<_}
+use Prim.Native.Nat.{ℕ, _≤_}
 use mathlib.Core.Path.{_≡_, refl, ap, _∙_}
 use mathlib.Core.Bool.{Bool, true, false}
 use native.Mathlib.Bridge.{le-prop}
@@ -7,7 +7,7 @@ use native.Mathlib.Omega.{arith}
 use Rattle.std.proofs.shelf.Tests.{both-ways, and-from, le-leb, lt-ltb}
 use Rattle.std.proofs.shelf.Ways.{tells}
 use Rattle.std.specs.declared.option.Option.{Option}
-use Rattle.std.specs.declared.option.Option.the-variants.{Some, None}
+use Rattle.std.specs.declared.option.Option.the-variants.{Some}
 use Rattle.std.specs.declared.result.Result.the-variants.{Ok}
 use Rattle.rules.specs.declared.quote.Quote.{Quote}
 use Rattle.rules.specs.declared.terms.Terms.{Terms}
@@ -16,7 +16,7 @@ use Rattle.rules.specs.declared.tier.Tier.the-variants.{Relative, Stagnating, 
 use Rattle.rules.specs.Ranges.{within, Within}
 use Rattle.rules.specs.Quotes.{in-limits, uncrossed, quote-made, quote-by, quote-of, sides-of}
 use Rattle.rules.specs.Tiers.{tier-number, tier-of}
-use Rattle.rules.specs.Agreements.{in-range, terms-made, terms-by, terms-of, conditions-of}
+use Rattle.rules.specs.Terms.{in-range, terms-made, terms-by, terms-of, conditions-of}
 
 within-from : (low high n : ℕ) → Within low high n → within low high n ≡ true
 within-from low high n h = and-from _ _ (le-leb low n (h .0)) (le-leb n high (h .1))

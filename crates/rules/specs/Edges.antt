@@ -1,5 +1,5 @@
--- The edges of the rules, from their definitions. A case speaks of every quote and all terms that have the numbers it
--- names and meet what it does not name, and such a quote and such terms exist.
+-- The edges of the rules, from their definitions. A case speaks of every quote and all terms, or of all figures, that
+-- have the numbers it names and meet what it does not name; and such a quote, such terms and such figures exist.
 use Prim.Native.Nat.{ℕ}
 use mathlib.Core.Path.{_≡_}
 use mathlib.Core.Bool.{Bool, true, false}
@@ -45,7 +45,8 @@ Zagreb-case limit minimum bid ask bid-size ask-size =
 -- Majority, by kept days and days.
 abbrev pub Majority-case : ℕ → ℕ → Verdict → Type 0
 Majority-case kept-days days verdict =
-    (f : MonthFigures) (threshold : ℕ) → f .«kept_days» ≡ kept-days → f .days ≡ days → majority-verdict f threshold ≡ verdict
+    ((f : MonthFigures) (threshold : ℕ) → (f .«kept_days» ≡ kept-days) × (f .days ≡ days) → majority-verdict f threshold ≡ verdict)
+    × ((f : MonthFigures) × (f .«kept_days» ≡ kept-days) × (f .days ≡ days))
 
 pub record Edges-hold : Type 0 where
   pub vienna-relative-meets : Vienna-case 1 Relative 100_000 100_750 true

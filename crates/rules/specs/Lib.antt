@@ -2,10 +2,11 @@ pub mod Refusals
 pub mod Ranges
 pub mod Quotes
 pub mod Tiers
-pub mod Agreements
+pub mod Terms
+pub mod Spreads
 pub mod Vienna
 pub mod Zagreb
 pub mod Beta
 pub mod Months
 pub mod Edges
-pub mod Readings
+pub mod Better

@@ -1,5 +1,5 @@
 -- The quote of two given sides, or the refusal of them.
-use Prim.Native.Nat.{ℕ, _<_, _≤_}
+use Prim.Native.Nat.{ℕ, _≤_}
 use mathlib.Core.Path.{_≡_, refl}
 use mathlib.Core.Bool.{Bool, true, false, _&&_}
 use mathlib.Core.Logic.{_⊎_}
@@ -12,7 +12,7 @@ use Rattle.rules.specs.declared.refusal.Refusal.the-variants.{QuoteOutOfLimits
 use Rattle.rules.specs.declared.sides.Sides.{Sides}
 use Rattle.rules.specs.declared.quote.Quote.{Quote}
 use Rattle.rules.specs.Ranges.{within, Within, within-says}
-use Rattle.rules.specs.Refusals.{number}
+use Rattle.rules.specs.Refusals.{refusal-number}
 
 abbrev pub price-in-limits : ℕ → Bool
 price-in-limits = within 1 1_000_000_000
@@ -61,6 +61,6 @@ abbrev pub In-limits : Sides → Type 0
 In-limits s =
     (Within 1 1_000_000_000 (s .bid) × Within 1 1_000_000_000 (s .ask)) × (Within 1 10_000_000 (s .«bid_size») × Within 1 10_000_000 (s .«ask_size»))
 
-abbrev pub Quoted : Sides → Result Quote Refusal → Type 0
-Quoted s (Ok q) = sides-of q ≡ s
-Quoted s (Err e) = ((number e ≡ 5) × (In-limits s → ⊥)) ⊎ ((number e ≡ 6) × In-limits s × (s .ask ≤ s .bid))
+abbrev pub Quote-answer : Sides → Result Quote Refusal → Type 0
+Quote-answer s (Ok q) = sides-of q ≡ s
+Quote-answer s (Err e) = ((refusal-number e ≡ 5) × (In-limits s → ⊥)) ⊎ ((refusal-number e ≡ 6) × In-limits s × (s .ask ≤ s .bid))

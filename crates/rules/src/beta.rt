@@ -18,11 +18,10 @@ pub impl QuoteRule for Beta as BetaRule {
         ensures value { λ r. ⌜ r ≡ beta-meets (now (quote .entry)) (now (terms .entry)) ⌝ }
         ensures plainly { λ r. ⌜ Decides r (Meets-beta (now (quote .entry)) (now (terms .entry))) ⌝ }
     {
-        let spread = (quote.ask() - quote.bid()) as u64;
         let both = quote.ask() as u64 + quote.bid() as u64;
         let smaller = quote.bid_size().min(quote.ask_size());
         let larger = quote.bid_size().max(quote.ask_size());
-        let narrow = 20_000 * spread <= terms.limit() as u64 * both;
+        let narrow = 20_000 * quote.spread() as u64 <= terms.limit() as u64 * both;
         narrow && terms.minimum() <= smaller && larger <= 2 * smaller
     }
 }

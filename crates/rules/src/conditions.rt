@@ -4,7 +4,7 @@
 pub struct Conditions {
     pub class: u32,
     pub tier: u32,
+    pub threshold: u32,
     pub limit: u32,
     pub minimum: u32,
-    pub threshold: u32,
 }

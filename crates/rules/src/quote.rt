@@ -3,6 +3,7 @@ ghost use mathlib.Core.Path.{_≡_};
 ghost use Prim.Native.Nat.{_≤_, _<_};
 
 mod make;
+mod spread;
 
 // Every quote that exists has its bid below its ask and all four numbers within the limits.
 #[derive(Clone, Copy)]

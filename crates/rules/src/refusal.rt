@@ -1,6 +1,6 @@
 // Why a call is refused.
 ghost use mathlib.Core.Path.{_≡_};
-ghost use Rattle.rules.specs.Refusals.{number};
+ghost use Rattle.rules.specs.Refusals.{refusal-number};
 
 #[derive(Clone, Copy, PartialEq, Eq, Debug)]
 pub enum Refusal {
@@ -12,7 +12,7 @@ pub enum Refusal {
 impl Refusal {
     // The number by which a refusal is told.
     pub fn number(&self) -> u8
-        ensures { λ r. ⌜ r ≡ number (now (self .entry)) ⌝ }
+        ensures { λ r. ⌜ r ≡ refusal-number (now (self .entry)) ⌝ }
     {
         match self {
             Refusal::FieldOutOfRange => 4,

@@ -1,6 +1,6 @@
 // What is proved of the written definitions alone. The functions do nothing: each carries a theorem in its contract.
 ghost use Rattle.rules.specs.Edges.{Edges-hold};
-ghost use Rattle.rules.specs.Readings.{Better-reads-plainly};
+ghost use Rattle.rules.specs.Better.{Better-reads-plainly};
 
 // Every edge of the list comes out as it says, and none is about nothing.
 pub fn edges_hold()

@@ -10,9 +10,9 @@ mod make;
 pub struct Terms {
     class: u8,
     tier: Tier,
+    threshold: u16,
     limit: u16,
     minimum: u32,
-    threshold: u16,
     ghost classes: { (1 ≤ class) × (class ≤ 7) },
     ghost limits: { (1 ≤ limit) × (limit ≤ 10_000) },
     ghost minimums: { (1 ≤ minimum) × (minimum ≤ 4_000_000_000) },

@@ -26,12 +26,11 @@ pub impl QuoteRule for Vienna as ViennaRule {
         ensures value { λ r. ⌜ r ≡ vienna-meets (now (quote .entry)) (now (terms .entry)) ⌝ }
         ensures plainly { λ r. ⌜ Decides r (Meets-vienna (now (quote .entry)) (now (terms .entry))) ⌝ }
     {
-        let spread = quote.ask() - quote.bid();
         let row = terms.class() as usize - 1;
         let narrow = match terms.tier() {
-            Tier::Relative => spread as u64 * 10_000 <= RELATIVE[row] as u64 * quote.bid() as u64,
-            Tier::Stagnating => spread <= STAGNATING[row] as u32,
-            Tier::Fixed => spread <= FIXED[row] as u32,
+            Tier::Relative => quote.is_within(RELATIVE[row]),
+            Tier::Stagnating => quote.spread() <= STAGNATING[row] as u32,
+            Tier::Fixed => quote.spread() <= FIXED[row] as u32,
         };
         narrow && terms.minimum() <= quote.bid_size() && terms.minimum() <= quote.ask_size()
     }

@@ -18,10 +18,8 @@ pub impl QuoteRule for Zagreb as ZagrebRule {
         ensures value { λ r. ⌜ r ≡ zagreb-meets (now (quote .entry)) (now (terms .entry)) ⌝ }
         ensures plainly { λ r. ⌜ Decides r (Meets-zagreb (now (quote .entry)) (now (terms .entry))) ⌝ }
     {
-        let spread = (quote.ask() - quote.bid()) as u64;
         let minimum = terms.minimum() as u64;
-        let narrow = spread * 10_000 <= terms.limit() as u64 * quote.bid() as u64;
-        narrow
+        quote.is_within(terms.limit())
             && minimum <= quote.bid() as u64 * quote.bid_size() as u64
             && minimum <= quote.ask() as u64 * quote.ask_size() as u64
     }

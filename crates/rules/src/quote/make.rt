@@ -1,6 +1,6 @@
-// The quote of two given sides.
+// The quote of two given sides. It stands apart from the type, since what it cites names the type.
 ghost use mathlib.Core.Path.{_≡_};
-ghost use Rattle.rules.specs.Quotes.{quote-of, Quoted};
+ghost use Rattle.rules.specs.Quotes.{quote-of, Quote-answer};
 use crate::quote::Quote;
 use crate::ranges::within;
 use crate::refusal::Refusal;
@@ -14,7 +14,7 @@ impl Quote {
     // The quote of these numbers, or the first refusal that applies: the limits are asked before the order of the prices.
     pub fn new(given: Sides) -> Result<Quote, Refusal>
         ensures value { λ r. ⌜ r ≡ quote-of given ⌝ }
-        ensures plainly { λ r. ⌜ Quoted given r ⌝ }
+        ensures plainly { λ r. ⌜ Quote-answer given r ⌝ }
     {
         let Sides {
             bid,

@@ -1,6 +1,6 @@
-// The terms of given conditions.
+// The terms of given conditions. It stands apart from the type, since what it cites names the type.
 ghost use mathlib.Core.Path.{_≡_};
-ghost use Rattle.rules.specs.Agreements.{terms-of, Agreed};
+ghost use Rattle.rules.specs.Terms.{terms-of, Terms-answer};
 use crate::conditions::Conditions;
 use crate::ranges::within;
 use crate::refusal::Refusal;
@@ -17,7 +17,7 @@ impl Terms {
     // The terms of these numbers, or a refusal where one is out of its range.
     pub fn new(given: Conditions) -> Result<Terms, Refusal>
         ensures value { λ r. ⌜ r ≡ terms-of given ⌝ }
-        ensures plainly { λ r. ⌜ Agreed given r ⌝ }
+        ensures plainly { λ r. ⌜ Terms-answer given r ⌝ }
     {
         let Conditions {
             class,

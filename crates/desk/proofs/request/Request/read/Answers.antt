@@ -1,4 +1,4 @@
-use mathlib.Core.Path.{_≡_, sym, ap, _∙_}
+use mathlib.Core.Path.{sym, ap, _∙_}
 use lib.Dec.{lit<}
 use lib.ListN.{drop}
 use Rattle.lines.specs.Words.{words, first, words-left}

@@ -17,7 +17,7 @@ pub loop-i-again : need.loop-i-again
 loop-i-again g c =
     let below : c .loop-i .i < length (c .loop-i .numbers) = omega (arith, c .loop-i .inv .1) in (
       c .loop-i .inv .0
-          ∙ one-more (take (c .loop-i .i) (c .loop-i .numbers)) _ (words-left (c .loop-i .self)) _ _ (c .in-Continue-numbers .field-0) (c .in-Continue-next-word .ensures tt .value) (c .in-Continue-next-word .ensures tt .after)
+          ∙ one-more (take (c .loop-i .i) (c .loop-i .numbers)) _ (words-left (c .loop-i .self)) (words-left (c .next-word .last .self)) _ (c .in-Continue-numbers .field-0) (c .in-Continue-next-word .ensures tt .value) (c .in-Continue-next-word .ensures tt .after)
           (c .in-Continue-numbers .ensures tt) (take-more-set (c .loop-i .numbers) (c .loop-i .i) (c .in-Continue-numbers .field-0) below),
       length-set (c .loop-i .numbers) (c .loop-i .i) (c .in-Continue-numbers .field-0) ∙ c .loop-i .inv .1,
     )

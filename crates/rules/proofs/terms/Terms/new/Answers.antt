@@ -1,5 +1,5 @@
 use mathlib.Core.Path.{_≡_, ap, _∙_}
-use Rattle.rules.specs.Agreements.{terms-of}
+use Rattle.rules.specs.Terms.{terms-of}
 use Rattle.rules.specs.Tiers.{tier-number}
 use Rattle.rules.specs.declared.conditions.Conditions.{Conditions}
 use Rattle.rules.proofs.Made.{terms-is, tier-numbered}

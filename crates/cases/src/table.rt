@@ -8,12 +8,12 @@ use rules::terms::Terms;
 use std::test::*;
 
 // Class, tier, limit and minimum; bid, ask, bid size and ask size; the answer.
-pub type Edge = ((u32, u32, u32, u32), (u32, u32, u32, u32), bool);
+pub(crate) type Row = ((u32, u32, u32, u32), (u32, u32, u32, u32), bool);
 
-// Each edge comes out as it says.
-pub fn check_edges<Q: QuoteRule>(rule: &Q, edges: &[Edge]) -> Result<(), Fail> {
-    for (place, edge) in edges.iter().enumerate() {
-        let ((class, tier, limit, minimum), (bid, ask, bid_size, ask_size), meets) = *edge;
+// Each row comes out as it says.
+pub(crate) fn check_rows<Q: QuoteRule>(rule: &Q, rows: &[Row]) -> Result<(), Fail> {
+    for (place, row) in rows.iter().enumerate() {
+        let ((class, tier, limit, minimum), (bid, ask, bid_size, ask_size), meets) = *row;
         let terms = Terms::new(Conditions {
             class,
             tier,
@@ -27,7 +27,7 @@ pub fn check_edges<Q: QuoteRule>(rule: &Q, edges: &[Edge]) -> Result<(), Fail> {
             bid_size,
             ask_size,
         })?;
-        check_eq(rule.meets(&quote, &terms), meets).note(format_args!("edge {place}"))?;
+        check_eq(rule.meets(&quote, &terms), meets).note(format_args!("row {place}"))?;
     }
     Ok(())
 }

@@ -13,7 +13,7 @@ use Rattle.rules.specs.declared.conditions.Conditions.{Conditions}
 use Rattle.rules.specs.declared.terms.Terms.{Terms}
 use Rattle.rules.specs.declared.tier.Tier.{Tier}
 use Rattle.rules.specs.Ranges.{within, Within, within-says}
-use Rattle.rules.specs.Refusals.{number}
+use Rattle.rules.specs.Refusals.{refusal-number}
 use Rattle.rules.specs.Tiers.{tier-number, tier-of}
 
 abbrev pub class-in-range : ℕ → Bool
@@ -65,6 +65,6 @@ abbrev pub In-range : Conditions → Type 0
 In-range c =
     Within 1 7 (c .class) × (c .tier ≤ 2) × Within 1 10_000 (c .limit) × Within 1 4_000_000_000 (c .minimum) × Within 1 10_000 (c .threshold)
 
-abbrev pub Agreed : Conditions → Result Terms Refusal → Type 0
-Agreed c (Ok t) = conditions-of t ≡ c
-Agreed c (Err e) = (number e ≡ 4) × (In-range c → ⊥)
+abbrev pub Terms-answer : Conditions → Result Terms Refusal → Type 0
+Terms-answer c (Ok t) = conditions-of t ≡ c
+Terms-answer c (Err e) = (refusal-number e ≡ 4) × (In-range c → ⊥)
