@@ -2,6 +2,8 @@
 // is), `spreads` a second listing of Vienna's tables, `limits` what is refused, `months` the verdicts. Of the meter: `day`
 // is one day at three thresholds, `calendar` the dates of 400 years, `refusal_numbers` every refusal's number, `compared` two
 // runs side by side.
+#![tactic(auto)]
+
 #[cfg(test)]
 mod calendar;
 #[cfg(test)]

@@ -1,4 +1,6 @@
 // console RULE: drives one meter by calls written as lines of text, and prints each line with its answer.
+#![tactic(auto)]
+
 use dialogue::console::Console;
 use exchanges::chosen::chosen_exchange;
 use exchanges::exchange::Exchange;

@@ -1,4 +1,6 @@
 // quotecheck RULE: judges quotes, line by line, by the rule of one market.
+#![tactic(auto)]
+
 use desk::answered::Answered;
 use desk::desk::Desk;
 use desk::market::Market;

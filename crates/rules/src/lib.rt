@@ -1,6 +1,8 @@
 // The quoting rules: what a quote is, what an account's terms are, which quotes meet which terms under each market's rule,
 // and what verdict a month's figures get. One type to a module; `quote_rule` and `month_rule` hold the two traits with
 // their laws, and `statements` what is proved of the definitions alone, the edges among it.
+#![tactic(auto)]
+
 pub mod beta;
 pub mod conditions;
 pub mod majority;

@@ -1,4 +1,6 @@
 // whatif RULE: runs two scripts, parted by a line `--`, on two meters made alike, and prints how each account stands in both.
+#![tactic(auto)]
+
 use accounts::table::MOST_ACCOUNTS;
 use calls::account_key::AccountKey;
 use dialogue::contrast::Contrast;

@@ -5,5 +5,5 @@ use Rattle.lines.proofs.number.read_number.Goals as goal
 
 pub returns : goal.returns
 returns c =
-    let unsigned = not_first 43 (lit< tt) (lit< tt) c.args.word.now c.starts-with.result c.starts-with.ensures.cases c.if-starts-with.false in
+    let unsigned = not_first 43 (lit< tt) (lit< tt) c.args.word.now c.starts_with.result c.starts_with.ensures.cases c.if-starts_with.false in
     c.ok.ensures.value ∙ number_read c.args.word.now c.parse.result (parse_plain decimal 32 c.args.word.now c.parse.result c.parse.ensures.value.0 unsigned)

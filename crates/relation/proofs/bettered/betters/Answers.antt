@@ -1,5 +1,5 @@
 use Rattle.laws.specs.Tighter.{same}
 use Rattle.relation.proofs.bettered.betters.Goals as goal
 
-pub returns-then-same-call : goal.returns-then-same-call
-returns-then-same-call g c = λ e. rw (c.if-same-call.ensures.0 e) (same c.args.new.now)
+pub returns-then-same_call : goal.returns-then-same_call
+returns-then-same_call g c = λ e. rw (c.if-same_call.ensures.0 e) (same c.args.new.now)

@@ -5,8 +5,8 @@ use Rattle.accounts.specs.Bounds.{DayBounds, MonthBounds}
 use Rattle.accounts.specs.Views.{enrolled_in}
 use Rattle.accounts.proofs.table.Table.end.Goals as goal
 
-pub end-one-requires : goal.end-one-requires
-end-one-requires g c =
+pub end_one-requires : goal.end_one-requires
+end_one-requires g c =
     let i = c.loop-i.i in
     let xs = enrolled_in c.args.self.now in
     let n : i < length xs = omega (arith, c.args.self.now.accounts.ok.0, c.len-i-end.ensures) in
@@ -23,7 +23,7 @@ pub loop-i-preserved : goal.loop-i-preserved
 loop-i-preserved g c =
     let xs = enrolled_in c.args.self.now in
     let n : c.loop-i.i < length xs = omega (arith, c.args.self.now.accounts.ok.0, c.len-i-end.ensures) in
-    over_at _ xs _ _ c.loop-i.i n c.loop-i.invariant c.end-one.ensures.account
+    over_at _ xs _ _ c.loop-i.i n c.loop-i.invariant c.end_one.ensures.account
 
 pub returns : goal.returns
 returns g c =

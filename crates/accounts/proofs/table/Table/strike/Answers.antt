@@ -15,5 +15,5 @@ returns-in-Some c =
     let xs = enrolled_in c.args.self.now in
     c.remove.ensures.items ∙ without_at (is c.args.key.now) xs c.in-Some.i c.in-Some.ensures
 
-pub returns-in-default : goal.returns-in-default
-returns-in-default c = without_none (is c.args.key.now) (enrolled_in c.args.self.now) c.in-default.ensures
+pub returns-in_default : goal.returns-in_default
+returns-in_default c = without_none (is c.args.key.now) (enrolled_in c.args.self.now) c.in_default.ensures

@@ -4,8 +4,8 @@ use Rattle.accounts.specs.Bounds.{DayBounds}
 use Rattle.accounts.specs.Views.{enrolled_in}
 use Rattle.accounts.proofs.table.Table.touch.Goals as goal
 
-pub touch-one-requires : goal.touch-one-requires
-touch-one-requires g c =
+pub touch_one-requires : goal.touch_one-requires
+touch_one-requires g c =
     let i = c.loop-i.i in
     let xs = enrolled_in c.args.self.now in
     let n : i < length xs = omega (arith, c.args.self.now.accounts.ok.0, c.len-i-end.ensures) in
@@ -20,7 +20,7 @@ pub loop-i-preserved : goal.loop-i-preserved
 loop-i-preserved g c =
     let xs = enrolled_in c.args.self.now in
     let n : c.loop-i.i < length xs = omega (arith, c.args.self.now.accounts.ok.0, c.len-i-end.ensures) in
-    over_at _ xs _ _ c.loop-i.i n c.loop-i.invariant c.touch-one.ensures.account
+    over_at _ xs _ _ c.loop-i.i n c.loop-i.invariant c.touch_one.ensures.account
 
 pub returns : goal.returns
 returns g c =

@@ -7,12 +7,12 @@ use Rattle.accounts.proofs.table.Table.turn_month.Goals as goal
 pub loop-account-preserved : goal.loop-account-preserved
 loop-account-preserved c =
     let i = c.loop-account.account-index in
-    let now = ap (set c.loop-account.account-items i) c.turn-month.ensures in
-    over_more account_turned c.deref-mut-account-items.result.now c.loop-account.account-items _ i c.account-item.result c.loop-account.invariant now
+    let now = ap (set c.loop-account.account-items i) c.turn_month.ensures in
+    over_more account_turned c.deref_mut-account-items.result.now c.loop-account.account-items _ i c.account-item.result c.loop-account.invariant now
 
 pub returns : goal.returns
 returns c =
-    with_items_is c.args.self.now.accounts c.loop-account.account-items (omega (arith, c.loop-account.auto.account-items, c.deref-mut-account-items.ensures.len))
+    with_items_is c.args.self.now.accounts c.loop-account.account-items (omega (arith, c.loop-account.auto.account-items, c.deref_mut-account-items.ensures.len))
     ∙ c.loop-account.invariant
-    ∙ over_all account_turned c.deref-mut-account-items.result.now c.loop-account.account-index c.loop-account-test.false
-    ∙ ap (map account_turned) c.deref-mut-account-items.ensures.value
+    ∙ over_all account_turned c.deref_mut-account-items.result.now c.loop-account.account-index c.loop-account-test.false
+    ∙ ap (map account_turned) c.deref_mut-account-items.ensures.value

@@ -9,8 +9,8 @@ use Rattle.book.specs.View.{view}
 use Rattle.book.proofs.Bounds.{each_map, day_ended, month_ended}
 use Rattle.book.proofs.book.Book.close_day.Goals as goal
 
-pub invariant-of-self : goal.invariant-of-self
-invariant-of-self g c =
+pub invariant_of-self : goal.invariant_of-self
+invariant_of-self g c =
     let b = c.args.self.now in
     let xs = enrolled_in b.table in
     let to = c.args.stamp in

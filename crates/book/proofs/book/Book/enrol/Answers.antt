@@ -11,8 +11,8 @@ use Rattle.book.proofs.book.Book.enrol.Goals as goal
 pub enrol-requires : goal.enrol-requires
 enrol-requires c = enrol_room (view c.args.self.now) c.args.key c.args.conditions c.requires
 
-pub invariant-of-self : goal.invariant-of-self
-invariant-of-self c =
+pub invariant_of-self : goal.invariant_of-self
+invariant_of-self c =
     let b = c.args.self.now in
     let xs = enrolled_in b.table in
     let new = newly_enrolled c.args.key c.in-Ok.terms in

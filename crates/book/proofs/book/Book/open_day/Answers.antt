@@ -8,8 +8,8 @@ use Rattle.book.specs.View.{view}
 use Rattle.book.proofs.Bounds.{each_map}
 use Rattle.book.proofs.book.Book.open_day.Goals as goal
 
-pub invariant-of-self : goal.invariant-of-self
-invariant-of-self c =
+pub invariant_of-self : goal.invariant_of-self
+invariant_of-self c =
     let b = c.args.self.now in
     let xs = enrolled_in b.table in
     let left = sym c.open_day.ensures in

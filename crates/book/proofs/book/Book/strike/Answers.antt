@@ -6,8 +6,8 @@ use Rattle.accounts.specs.Views.{enrolled_in}
 use Rattle.book.proofs.Bounds.{each_without}
 use Rattle.book.proofs.book.Book.strike.Goals as goal
 
-pub invariant-of-self : goal.invariant-of-self
-invariant-of-self c =
+pub invariant_of-self : goal.invariant_of-self
+invariant_of-self c =
     let b = c.args.self.now in
     let xs = enrolled_in b.table in
     let p = is c.args.key.now in

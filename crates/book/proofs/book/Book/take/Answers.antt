@@ -13,4 +13,4 @@ pub returns-in-Open : goal.returns-in-Open
 returns-in-Open g c = let rule = g.Q.QuoteRule.meets c.args.rule.now in c.open_day.ensures rule ∙ ap (taken rule (view c.args.self.now)) (sym c.in-Open.is)
 
 pub returns-in-Turn : goal.returns-in-Turn
-returns-in-Turn g c = let rule = g.Q.QuoteRule.meets c.args.rule.now in c.turn-month.ensures rule ∙ ap (taken rule (view c.args.self.now)) (sym c.in-Turn.is)
+returns-in-Turn g c = let rule = g.Q.QuoteRule.meets c.args.rule.now in c.turn_month.ensures rule ∙ ap (taken rule (view c.args.self.now)) (sym c.in-Turn.is)

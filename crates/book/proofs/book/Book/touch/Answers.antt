@@ -8,8 +8,8 @@ use Rattle.book.specs.View.{view}
 use Rattle.book.proofs.Bounds.{each_map, each_also, day_room, day_touched}
 use Rattle.book.proofs.book.Book.touch.Goals as goal
 
-pub overflow-sub-span : goal.overflow-sub-span
-overflow-sub-span g c = (at_day (view c.args.self.now) c.args.stamp c.args.change.now c.requires).1
+pub overflow_sub-span : goal.overflow_sub-span
+overflow_sub-span g c = (at_day (view c.args.self.now) c.args.stamp c.args.change.now c.requires).1
 
 pub touch-requires : goal.touch-requires
 touch-requires g c =
@@ -29,8 +29,8 @@ touch-requires g c =
 pub change-requires : goal.change-requires
 change-requires g c = (at_fields (view c.args.self.now) c.args.stamp c.args.change.now c.requires).1
 
-pub invariant-of-self : goal.invariant-of-self
-invariant-of-self g c =
+pub invariant_of-self : goal.invariant_of-self
+invariant_of-self g c =
     let b = c.args.self.now in
     let xs = enrolled_in b.table in
     let to = c.args.stamp in

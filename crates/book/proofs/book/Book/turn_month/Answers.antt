@@ -6,11 +6,11 @@ use Rattle.accounts.specs.Views.{enrolled_in}
 use Rattle.book.proofs.Bounds.{each_map, month_turned}
 use Rattle.book.proofs.book.Book.turn_month.Goals as goal
 
-pub invariant-of-self : goal.invariant-of-self
-invariant-of-self c =
+pub invariant_of-self : goal.invariant_of-self
+invariant_of-self c =
     let b = c.args.self.now in
     let xs = enrolled_in b.table in
-    let left = sym c.turn-month.ensures in
+    let left = sym c.turn_month.ensures in
     let most = reach b.day_open b.clock in (
       subst (EachIs (DayBounds most)) left (each_map (DayBounds most) (DayBounds most) account_turned (λ a h. h) xs b.today),
       (

@@ -3,8 +3,8 @@ use Rattle.std.proofs.lemmas.Bool.{cond-false}
 use Rattle.lines.proofs.Readings.{not_same}
 use Rattle.exchanges.proofs.exchange.Exchange.named.Goals as goal
 
-pub returns-in-default : goal.returns-in-default
-returns-in-default c =
-    sym (cond-false _ _ _ (not_same c.args.name.now (codes "vienna") c.in-default.not-vienna)
-    ∙ (cond-false _ _ _ (not_same c.args.name.now (codes "zagreb") c.in-default.not-zagreb)
-    ∙ cond-false _ _ _ (not_same c.args.name.now (codes "beta") c.in-default.not-beta)))
+pub returns-in_default : goal.returns-in_default
+returns-in_default c =
+    sym (cond-false _ _ _ (not_same c.args.name.now (codes "vienna") c.in_default.not-vienna)
+    ∙ (cond-false _ _ _ (not_same c.args.name.now (codes "zagreb") c.in_default.not-zagreb)
+    ∙ cond-false _ _ _ (not_same c.args.name.now (codes "beta") c.in_default.not-beta)))

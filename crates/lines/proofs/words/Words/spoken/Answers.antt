@@ -6,5 +6,5 @@ use Rattle.lines.proofs.words.Words.spoken.Goals as goal
 pub returns : goal.returns
 returns c =
     let line = c.args.line.now in
-    let plain = not_first 35 (lit< tt) (lit< tt) line c.starts-with.result c.starts-with.ensures.cases c.if-starts-with.false in
-    (or_from _ _ (sym c.if-is-empty.ensures) (ne_eqb (get_or line 0 0) 35 plain), c.cut.ensures)
+    let plain = not_first 35 (lit< tt) (lit< tt) line c.starts_with.result c.starts_with.ensures.cases c.if-starts_with.false in
+    (or_from _ _ (sym c.if-is_empty.ensures) (ne_eqb (get_or line 0 0) 35 plain), c.cut.ensures)

@@ -3,10 +3,10 @@ use Rattle.std.proofs.lemmas.Bool.{cond-false}
 use Rattle.lines.proofs.Readings.{not_same}
 use Rattle.script.proofs.verb.Verb.named.Goals as goal
 
-pub returns-in-default : goal.returns-in-default
-returns-in-default c =
+pub returns-in_default : goal.returns-in_default
+returns-in_default c =
     let w = c.args.word.now in
-    let r = c.in-default in
+    let r = c.in_default in
     sym (
     cond-false _ _ _ (not_same w (codes "enrol") r.not-enrol)
     ∙ (cond-false _ _ _ (not_same w (codes "strike") r.not-strike)
