@@ -22,12 +22,13 @@ invariant_of-self g c =
     let e : b.clock + span ≡ to = omega (arith, day.1) in
     let was = subst (λ (o : Bool). EachIs (DayBounds (reach o b.clock)) xs) day.0 b.today in
     let left = sym c.end.ensures in
-    let f = ended rule m span in (
-      subst (EachIs (DayBounds 0)) left (each_map (DayBounds b.clock) (DayBounds 0) f (day_ended rule m span b.clock to e) xs was),
-      (
-        subst (EachIs (MonthBounds (b.closed + 1))) left
-            (each_map (λ a. DayBounds b.clock a × MonthBounds b.closed a) (MonthBounds (b.closed + 1)) f
-            (λ a h. month_ended rule m span b.clock to e b.closed small a h.0 h.1) xs (λ k d h. (was k d h, b.month k d h))),
-        (small, (omega (arith, b.room day.0), ((λ z. absurd (false≢true z)), tt))),
-      ),
-    )
+    let f = ended rule m span in
+    record {
+      today = subst (EachIs (DayBounds 0)) left (each_map (DayBounds b.clock) (DayBounds 0) f (day_ended rule m span b.clock to e) xs was);
+      month = subst (EachIs (MonthBounds (b.closed + 1))) left
+          (each_map (λ a. DayBounds b.clock a × MonthBounds b.closed a) (MonthBounds (b.closed + 1)) f
+          (λ a h. month_ended rule m span b.clock to e b.closed small a h.0 h.1) xs (λ k d h. (was k d h, b.month k d h)));
+      day = small;
+      days = omega (arith, b.room day.0);
+      room = (λ z. absurd (false≢true z));
+    }

@@ -18,10 +18,11 @@ invariant_of-self c =
     let new = newly_enrolled c.args.key c.in-Ok.terms in
     let known = enrol_instrument (view b) c.args.key c.args.conditions c.requires in
     let left = sym c.enrol.ensures in
-    let most = reach b.day_open b.clock in (
-      subst (EachIs (DayBounds most)) left (each_push (DayBounds most) xs new b.today (known.0, known.1, omega arith, omega arith)),
-      (
-        subst (EachIs (MonthBounds b.closed)) left (each_push (MonthBounds b.closed) xs new b.month (omega arith, omega arith, omega arith, omega arith)),
-        (b.day, (b.days, (b.room, tt))),
-      ),
-    )
+    let most = reach b.day_open b.clock in
+    record {
+      today = subst (EachIs (DayBounds most)) left (each_push (DayBounds most) xs new b.today (known.0, known.1, omega arith, omega arith));
+      month = subst (EachIs (MonthBounds b.closed)) left (each_push (MonthBounds b.closed) xs new b.month (omega arith, omega arith, omega arith, omega arith));
+      day = b.day;
+      days = b.days;
+      room = b.room;
+    }

@@ -13,10 +13,11 @@ invariant_of-self c =
     let b = c.args.self.now in
     let xs = enrolled_in b.table in
     let left = sym c.open_day.ensures in
-    let none : EachIs (DayBounds 0) xs = subst (λ (o : Bool). EachIs (DayBounds (reach o b.clock)) xs) (open_shut (view b) c.args.date c.requires) b.today in (
-      subst (EachIs (DayBounds 0)) left (each_map (DayBounds 0) (DayBounds 0) account_opened (λ a h. h) xs none),
-      (
-        subst (EachIs (MonthBounds b.closed)) left (each_map (MonthBounds b.closed) (MonthBounds b.closed) account_opened (λ a h. h) xs b.month),
-        (omega arith, (b.days, ((λ e. omega (arith, open_room (view b) c.args.date c.requires)), tt))),
-      ),
-    )
+    let none : EachIs (DayBounds 0) xs = subst (λ (o : Bool). EachIs (DayBounds (reach o b.clock)) xs) (open_shut (view b) c.args.date c.requires) b.today in
+    record {
+      today = subst (EachIs (DayBounds 0)) left (each_map (DayBounds 0) (DayBounds 0) account_opened (λ a h. h) xs none);
+      month = subst (EachIs (MonthBounds b.closed)) left (each_map (MonthBounds b.closed) (MonthBounds b.closed) account_opened (λ a h. h) xs b.month);
+      day = omega arith;
+      days = b.days;
+      room = (λ e. omega (arith, open_room (view b) c.args.date c.requires));
+    }

@@ -12,10 +12,11 @@ invariant_of-self c =
     let xs = enrolled_in b.table in
     let p = is c.args.key.now in
     let left = sym c.strike.ensures in
-    let most = reach b.day_open b.clock in (
-      subst (EachIs (DayBounds most)) left (each_without (DayBounds most) p xs b.today),
-      (
-        subst (EachIs (MonthBounds b.closed)) left (each_without (MonthBounds b.closed) p xs b.month),
-        (b.day, (b.days, (b.room, tt))),
-      ),
-    )
+    let most = reach b.day_open b.clock in
+    record {
+      today = subst (EachIs (DayBounds most)) left (each_without (DayBounds most) p xs b.today);
+      month = subst (EachIs (MonthBounds b.closed)) left (each_without (MonthBounds b.closed) p xs b.month);
+      day = b.day;
+      days = b.days;
+      room = b.room;
+    }

@@ -42,10 +42,11 @@ invariant_of-self g c =
     let f = touched rule (trading_in b.market) span c.args.change.now in
     let was = subst (λ (o : Bool). EachIs (DayBounds (reach o b.clock)) xs) day.0 b.today in
     let held = each_map (DayBounds b.clock) (DayBounds to) f (day_touched rule (trading_in b.market) span b.clock to e c.args.change.now) xs was in
-    let left = sym c.touch.ensures in (
-      subst (EachIs (DayBounds (reach b.day_open to))) left (subst (λ (o : Bool). EachIs (DayBounds (reach o to)) (map f xs)) (sym day.0) held),
-      (
-        subst (EachIs (MonthBounds b.closed)) left (each_map (MonthBounds b.closed) (MonthBounds b.closed) f (λ a h. h) xs b.month),
-        (fields.0, (b.days, (b.room, tt))),
-      ),
-    )
+    let left = sym c.touch.ensures in
+    record {
+      today = subst (EachIs (DayBounds (reach b.day_open to))) left (subst (λ (o : Bool). EachIs (DayBounds (reach o to)) (map f xs)) (sym day.0) held);
+      month = subst (EachIs (MonthBounds b.closed)) left (each_map (MonthBounds b.closed) (MonthBounds b.closed) f (λ a h. h) xs b.month);
+      day = fields.0;
+      days = b.days;
+      room = b.room;
+    }

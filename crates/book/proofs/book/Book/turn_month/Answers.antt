@@ -11,10 +11,11 @@ invariant_of-self c =
     let b = c.args.self.now in
     let xs = enrolled_in b.table in
     let left = sym c.turn_month.ensures in
-    let most = reach b.day_open b.clock in (
-      subst (EachIs (DayBounds most)) left (each_map (DayBounds most) (DayBounds most) account_turned (λ a h. h) xs b.today),
-      (
-        subst (EachIs (MonthBounds 0)) left (each_map (MonthBounds b.closed) (MonthBounds 0) account_turned (month_turned b.closed) xs b.month),
-        (b.day, (omega arith, ((λ e. omega arith), tt))),
-      ),
-    )
+    let most = reach b.day_open b.clock in
+    record {
+      today = subst (EachIs (DayBounds most)) left (each_map (DayBounds most) (DayBounds most) account_turned (λ a h. h) xs b.today);
+      month = subst (EachIs (MonthBounds 0)) left (each_map (MonthBounds b.closed) (MonthBounds 0) account_turned (month_turned b.closed) xs b.month);
+      day = b.day;
+      days = omega arith;
+      room = (λ e. omega arith);
+    }
