@@ -83,19 +83,20 @@ fn number(answer: &Result<(), Refusal>) -> u8 {
 // The calls were answered by these numbers, 0 for accepted, and the month has 1000 milliseconds obliged and these qualified.
 fn check_run(
     rt: &impl Abort,
+    which: &str,
     run: &Run<Vienna, Ratio>,
     numbers: &[u8],
     qualified: u32,
     verdict: Verdict,
 ) -> Result<(), Fail> {
-    assert_eq!(rt; run.answers.len(), numbers.len());
+    assert_eq!(rt; run.answers.len(), numbers.len(), "{which}");
     for (answer, expected) in run.answers.iter().zip(numbers.iter()) {
-        assert_eq!(rt; number(answer), *expected);
+        assert_eq!(rt; number(answer), *expected, "{which}");
     }
     let statement = run.meter.statement(&KEY)?;
-    assert_eq!(rt; statement.figures.month.obliged, 1000);
-    assert_eq!(rt; statement.figures.month.qualified, qualified);
-    assert_eq!(rt; statement.verdict, verdict);
+    assert_eq!(rt; statement.figures.month.obliged, 1000, "{which}");
+    assert_eq!(rt; statement.figures.month.qualified, qualified, "{which}");
+    assert_eq!(rt; statement.verdict, verdict, "{which}");
     Ok(())
 }
 
@@ -120,8 +121,22 @@ fn tighter_copy(rt: HostRuntime) -> Result<(), Fail> {
         close,
     ];
     let both = compared(&rt, &first, &second)?;
-    check_run(&rt, &both.first, &[0, 0, 0, 0, 0, 0], 600, Verdict::Breach).note("first")?;
-    check_run(&rt, &both.second, &[0, 0, 0, 0, 0, 0], 1000, Verdict::Kept).note("second")
+    check_run(
+        &rt,
+        "first",
+        &both.first,
+        &[0, 0, 0, 0, 0, 0],
+        600,
+        Verdict::Breach,
+    )?;
+    check_run(
+        &rt,
+        "second",
+        &both.second,
+        &[0, 0, 0, 0, 0, 0],
+        1000,
+        Verdict::Kept,
+    )
 }
 
 // The quote before the phase of its stamp or behind it; at 800 a refused phase before the withdrawal or behind it.
@@ -151,13 +166,20 @@ fn exchanged_pairs(rt: HostRuntime) -> Result<(), Fail> {
         close,
     ];
     let both = compared(&rt, &first, &second)?;
-    check_run(&rt, &both.first, &[0, 0, 0, 0, 4, 0, 0], 700, Verdict::Kept).note("first")?;
     check_run(
         &rt,
+        "first",
+        &both.first,
+        &[0, 0, 0, 0, 4, 0, 0],
+        700,
+        Verdict::Kept,
+    )?;
+    check_run(
+        &rt,
+        "second",
         &both.second,
         &[0, 0, 0, 0, 0, 4, 0],
         700,
         Verdict::Kept,
     )
-    .note("second")
 }

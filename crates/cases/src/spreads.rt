@@ -21,7 +21,7 @@ fn check_widest(rt: &impl Abort, class: u32, tier: u32, widest: u32) -> Result<(
     let ask = 1_000_000u32.saturating_add(widest);
     let at = (given, (1_000_000, ask, 1, 1), true);
     let over = (given, (1_000_000, ask.saturating_add(1), 1, 1), false);
-    check_rows(rt, &Vienna, &[at, over]).note(format_args!("class {class}, tier {tier}"))
+    check_rows(rt, &Vienna, &[at, over])
 }
 
 #[test]

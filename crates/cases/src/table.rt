@@ -31,7 +31,11 @@ pub(crate) fn check_rows<Q: QuoteRule>(
             bid_size,
             ask_size,
         })?;
-        assert_eq!(rt; rule.meets(&quote, &terms), meets, "row {place}");
+        assert_eq!(rt;
+            rule.meets(&quote, &terms),
+            meets,
+            "row {place}: class {class}, tier {tier}"
+        );
     }
     Ok(())
 }
