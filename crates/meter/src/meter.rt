@@ -9,7 +9,7 @@ use rules::quote_rule::QuoteRule;
 use std::alloc::{AllocError, Global};
 
 mod ask;
-mod calls;
+mod changing_calls;
 mod run;
 
 #[derive(Drop)]
