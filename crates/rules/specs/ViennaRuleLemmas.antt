@@ -1,3 +1,4 @@
+-- Under each tier, a better quote is as narrow as Vienna asks.
 use Rattle.std.proofs.Common.{le_trans}
 use Rattle.rules.specs.declared.quote.Quote.{Quote}
 use Rattle.rules.specs.declared.terms.Terms.{Terms}
