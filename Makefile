@@ -3,8 +3,8 @@
 .PHONY: run test
 
 run:
-	@rt check console >/dev/null || { rt check console | tail -n 20; exit 1; }
-	target/bin/console vienna <crates/console/stdin
+	@mkdir -p crates/console/out
+	@cd crates/console && { rt run -- vienna <stdin 2>out/said || { tail -n 20 out/said >&2; exit 1; }; }
 
 test:
 	scripts/gate

@@ -16,12 +16,22 @@ use rules::zagreb::Zagreb;
 use script::command::Command;
 use std::io;
 use std::io::{BufRead, BufReader};
+use std::process::ExitCode;
 
-fn main(rt: HostRuntime) -> io::Result<()> {
-    match chosen_exchange(&rt) {
-        Some(Exchange::Vienna) => run(&rt, Vienna, Ratio),
-        Some(Exchange::Zagreb) => run(&rt, Zagreb, Ratio),
-        Some(Exchange::Beta) => run(&rt, Beta, Majority),
+// What went wrong is said where it happens, so the status alone tells of it here.
+fn main(rt: HostRuntime) -> ExitCode {
+    match run_named(&rt) {
+        Ok(()) => ExitCode::SUCCESS,
+        Err(_) => ExitCode::FAILURE,
+    }
+}
+
+// Runs by the rules of the exchange that was named.
+fn run_named(rt: &HostRuntime) -> io::Result<()> {
+    match chosen_exchange(rt) {
+        Some(Exchange::Vienna) => run(rt, Vienna, Ratio),
+        Some(Exchange::Zagreb) => run(rt, Zagreb, Ratio),
+        Some(Exchange::Beta) => run(rt, Beta, Majority),
         None => {
             eprintln!(rt;
                 "usage: console vienna|zagreb|beta, with calls on standard input, one to a line"

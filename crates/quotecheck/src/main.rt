@@ -12,13 +12,23 @@ use rules::statements::{better_reads_plainly, edges_hold};
 use rules::vienna::Vienna;
 use rules::zagreb::Zagreb;
 use std::io::{BufRead, BufReader};
+use std::process::ExitCode;
 use std::{env, io};
 
-fn main(rt: HostRuntime) -> io::Result<()> {
-    match chosen_market(&rt) {
-        Some(Market::Vienna) => run(&rt, Vienna),
-        Some(Market::Zagreb) => run(&rt, Zagreb),
-        Some(Market::Beta) => run(&rt, Beta),
+// What went wrong is said where it happens, so the status alone tells of it here.
+fn main(rt: HostRuntime) -> ExitCode {
+    match run_named(&rt) {
+        Ok(()) => ExitCode::SUCCESS,
+        Err(_) => ExitCode::FAILURE,
+    }
+}
+
+// Runs by the rule of the market that was named.
+fn run_named(rt: &HostRuntime) -> io::Result<()> {
+    match chosen_market(rt) {
+        Some(Market::Vienna) => run(rt, Vienna),
+        Some(Market::Zagreb) => run(rt, Zagreb),
+        Some(Market::Beta) => run(rt, Beta),
         None => {
             eprintln!(rt;
                 "usage: quotecheck vienna|zagreb|beta, with terms and quotes on standard input"

@@ -22,12 +22,22 @@ use rules::zagreb::Zagreb;
 use script::scripts::Scripts;
 use std::io;
 use std::io::{BufRead, BufReader};
+use std::process::ExitCode;
 
-fn main(rt: HostRuntime) -> io::Result<()> {
-    match chosen_exchange(&rt) {
-        Some(Exchange::Vienna) => run(&rt, Vienna, Ratio, Vienna, Ratio),
-        Some(Exchange::Zagreb) => run(&rt, Zagreb, Ratio, Zagreb, Ratio),
-        Some(Exchange::Beta) => run(&rt, Beta, Majority, Beta, Majority),
+// What went wrong is said where it happens, so the status alone tells of it here.
+fn main(rt: HostRuntime) -> ExitCode {
+    match run_named(&rt) {
+        Ok(()) => ExitCode::SUCCESS,
+        Err(_) => ExitCode::FAILURE,
+    }
+}
+
+// Runs by the rules of the exchange that was named.
+fn run_named(rt: &HostRuntime) -> io::Result<()> {
+    match chosen_exchange(rt) {
+        Some(Exchange::Vienna) => run(rt, Vienna, Ratio, Vienna, Ratio),
+        Some(Exchange::Zagreb) => run(rt, Zagreb, Ratio, Zagreb, Ratio),
+        Some(Exchange::Beta) => run(rt, Beta, Majority, Beta, Majority),
         None => {
             eprintln!(rt;
                 "usage: whatif vienna|zagreb|beta, with two scripts on standard input, parted by a line --"
