@@ -4,7 +4,8 @@
 
 run:
 	@mkdir -p crates/console/out
-	@cd crates/console && { rt run -- vienna <stdin 2>out/said || { tail -n 20 out/said >&2; exit 1; }; }
+	@cd crates/console && { rt run -- vienna <stdin >/dev/null 2>out/said || { tail -n 20 out/said; exit 1; }; }
+	@cd crates/console && out/console vienna <stdin
 
 test:
 	scripts/gate

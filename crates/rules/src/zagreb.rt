@@ -1,6 +1,6 @@
 // Zagreb: the spread is limited against the bid, and the minimum is the worth of each side.
 ghost use Rattle.std.specs.Prelude.{◌≡◌, Decides};
-ghost use Rattle.rules.specs.Zagreb.{bid_worth, ask_worth, zagreb_meets, zagreb_better, MeetsZagreb, BetterZagreb};
+ghost use Rattle.rules.specs.Zagreb.{ask_worth, zagreb_meets, zagreb_better, MeetsZagreb, BetterZagreb};
 ghost use Rattle.std.proofs.Common.{mul-le-mul, le_trans, rules};
 ghost use Rattle.rules.specs.Plainly.{zagreb_reads, zagreb_better_reads};
 ghost use Rattle.rules.specs.SpreadsLemmas.{keeps_within};
@@ -11,12 +11,6 @@ use crate::terms::Terms;
 
 #[derive(Clone, Copy)]
 pub struct Zagreb;
-
-fn bid_worth(quote: &Quote) -> u64
-    ensures { result ≡ bid_worth quote.now }
-{
-    quote.bid() as u64 * quote.bid_size() as u64
-}
 
 fn ask_worth(quote: &Quote) -> u64
     ensures { result ≡ ask_worth quote.now }
