@@ -2,4 +2,3 @@ pub mod Positions
 pub mod InPlace
 pub mod Phases
 pub mod Accepted
-pub mod Places

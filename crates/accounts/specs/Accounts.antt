@@ -1,5 +1,5 @@
 -- An account, and what each call makes of it.
-use Rattle.std.specs.Prelude.{ℕ, zero, suc, Bool, false, List, [], ◌∷◌, Some, None, Ok, Err, Option, Result}
+use Rattle.std.specs.Prelude.{ℕ, Bool, false, List, [], ◌∷◌, None, Ok, Err, Option, Result, slice_get, option_map}
 use Rattle.rules.specs.declared.quote.Quote.{Quote}
 use Rattle.rules.specs.declared.terms.Terms.{Terms}
 use Rattle.rules.specs.declared.refusal.Refusal.{Refusal}
@@ -73,6 +73,4 @@ figures_of a = record { today = a.today; month = a.month }
 
 -- What names the account at place i, counted from 0.
 abbrev pub key_at : List Account → ℕ → Option AccountKey
-key_at [] i = None
-key_at (a ∷ rest) zero = Some a.key
-key_at (a ∷ rest) (suc i) = key_at rest i
+key_at accounts i = option_map (λ a. a.key) (slice_get accounts i)

@@ -6,4 +6,6 @@ pub mod States
 pub mod Refusals
 pub mod Steps
 pub mod Bounds
+pub mod Changes
 pub mod Views
+pub mod Texts

@@ -1,33 +1,22 @@
 // One account: its terms, what stands today, and its figures.
-ghost use Rattle.std.specs.Prelude.{◌≡◌, ◌+◌, ◌-◌, ◌≤◌};
-ghost use Rattle.accounts.specs.Accounts.{is, under, counted, settled, account_changed, account_opened, account_closed, account_turned, newly_enrolled, figures_of};
+ghost use Rattle.std.specs.Prelude.{◌≡◌, ◌-◌};
+ghost use Rattle.accounts.specs.Accounts.{is, settled, account_changed, account_opened, account_closed, account_turned, touched, ended, newly_enrolled, figures_of};
 ghost use Rattle.accounts.specs.Counting.{stands, kept_day};
 ghost use Rattle.accounts.specs.Bounds.{DayBounds, MonthBounds};
 ghost use Rattle.accounts.specs.Views.{trading_in};
 
 use crate::day_figures::DayFigures;
 use crate::figures::Figures;
-use crate::market::Market;
+use crate::span::Span;
 use calls::account_key::AccountKey;
 use calls::change::Change;
-use calls::phase::Phase;
 use rules::month_figures::MonthFigures;
 use rules::quote::Quote;
 use rules::quote_rule::QuoteRule;
 use rules::terms::Terms;
 
-const NO_TIME: DayFigures = DayFigures {
-    obliged: 0,
-    qualified: 0,
-};
-
-const NO_MONTH: MonthFigures = MonthFigures {
-    obliged: 0,
-    qualified: 0,
-    days: 0,
-    kept_days: 0,
-};
-
+// Its bounds (specs/Bounds) are clauses and no ghost fields: as these, every definition that writes an account would have to
+// carry their proof.
 #[derive(Clone, Copy)]
 pub struct Account {
     key: AccountKey,
@@ -48,8 +37,8 @@ impl Account {
             terms,
             exempt: false,
             quote: None,
-            today: NO_TIME,
-            month: NO_MONTH,
+            today: DayFigures::default(),
+            month: MonthFigures::default(),
         }
     }
 
@@ -57,7 +46,7 @@ impl Account {
     pub fn is(&self, key: &AccountKey) -> bool
         ensures { result ≡ is key.now self.now }
     {
-        key.is_same(&self.key)
+        *key == self.key
     }
 
     pub fn key(&self) -> AccountKey
@@ -85,32 +74,20 @@ impl Account {
     fn stands<Q: QuoteRule>(&self, rule: &Q) -> bool
         ensures { result ≡ stands (Q.QuoteRule.meets rule.now) self.now.terms self.now.quote }
     {
-        match &self.quote {
-            Some(quote) => rule.meets(quote, &self.terms),
-            None => false,
-        }
+        self.quote
+            .is_some_and(|quote| rule.meets(&quote, &self.terms))
     }
 
-    // Counts `span` milliseconds in this phase of the instrument, in a market that is fast or not.
-    fn count<Q: QuoteRule>(&mut self, rule: &Q, phase: Phase, fast: bool, span: u32)
-        requires small { self.old.today.obliged + span ≤ 86_400_000 }
-        requires within { self.old.today.qualified ≤ self.old.today.obliged }
-        ensures { self.new ≡ counted (Q.QuoteRule.meets rule.now) span (under phase fast self.old) self.old }
+    // Counts the time of the span under what stands.
+    pub fn settle<Q: QuoteRule>(&mut self, span: &Span<'_, Q>)
+        requires { DayBounds (86_400_000 - span.now.length) self.old }
+        ensures { self.new ≡ settled (Q.QuoteRule.meets span.now.rule.now) (trading_in span.now.market.now) span.now.length self.old }
     {
-        let obliged = phase.is_continuous() && !fast && !self.exempt;
-        let qualified = obliged && self.stands(rule);
-        self.today.obliged += if obliged { span } else { 0 };
-        self.today.qualified += if qualified { span } else { 0 };
-    }
-
-    // Counts the `span` milliseconds since the last stamp under what stands.
-    pub fn settle<Q: QuoteRule>(&mut self, rule: &Q, market: &Market, span: u32)
-        requires bounds { DayBounds (86_400_000 - span) self.old }
-        requires day { span ≤ 86_400_000 }
-        ensures { self.new ≡ settled (Q.QuoteRule.meets rule.now) (trading_in market.now) span self.old }
-    {
-        let phase = market.phase_of(self.key.instrument);
-        self.count(rule, phase, market.is_fast(), span);
+        let phase = span.market.phase_of(self.key.instrument);
+        let obliged = phase.is_continuous() && !span.market.is_fast() && !self.exempt;
+        let qualified = obliged && self.stands(span.rule);
+        self.today.obliged += if obliged { span.length } else { 0 };
+        self.today.qualified += if qualified { span.length } else { 0 };
     }
 
     // Sets what the change sets of this account.
@@ -118,24 +95,27 @@ impl Account {
         ensures { self.new ≡ account_changed change.now self.old }
     {
         match *change {
-            Change::Phase { .. } => {}
-            Change::Fast { .. } => {}
-            Change::Exempt { key, flag } => {
-                if self.is(&key) {
-                    self.exempt = flag == 1;
-                }
+            Change::Exempt { key, flag } if self.is(&key) => self.exempt = flag == 1,
+            Change::Quote { key, sides } if self.is(&key) => {
+                self.quote = Quote::try_from(sides).ok();
             }
-            Change::Quote { key, sides } => {
-                if self.is(&key) {
-                    self.quote = Quote::new(sides).ok();
-                }
-            }
-            Change::Withdraw { key } => {
-                if self.is(&key) {
-                    self.quote = None;
-                }
-            }
+            Change::Withdraw { key } if self.is(&key) => self.quote = None,
+            // a change of the market, or of another account
+            Change::Phase { .. }
+            | Change::Fast { .. }
+            | Change::Exempt { .. }
+            | Change::Quote { .. }
+            | Change::Withdraw { .. } => {}
         }
+    }
+
+    // Settles, and sets what the change sets.
+    pub fn touch<Q: QuoteRule>(&mut self, span: &Span<'_, Q>, change: &Change)
+        requires { DayBounds (86_400_000 - span.now.length) self.old }
+        ensures { self.new ≡ touched (Q.QuoteRule.meets span.now.rule.now) (trading_in span.now.market.now) span.now.length change.now self.old }
+    {
+        self.settle(span);
+        self.change(change);
     }
 
     // Not exempt, no quote standing.
@@ -165,13 +145,23 @@ impl Account {
         self.month.qualified += self.today.qualified;
         self.month.days += 1;
         self.month.kept_days += if kept { 1 } else { 0 };
-        self.today = NO_TIME;
+        self.today = DayFigures::default();
+    }
+
+    // Settles, and closes the day.
+    pub fn end<Q: QuoteRule>(&mut self, span: &Span<'_, Q>)
+        requires bounds { DayBounds (86_400_000 - span.now.length) self.old }
+        requires month { MonthBounds 30 self.old }
+        ensures { self.new ≡ ended (Q.QuoteRule.meets span.now.rule.now) (trading_in span.now.market.now) span.now.length self.old }
+    {
+        self.settle(span);
+        self.close_day();
     }
 
     // Sets the month's figures to 0.
     pub fn turn_month(&mut self)
         ensures { self.new ≡ account_turned self.old }
     {
-        self.month = NO_MONTH;
+        self.month = MonthFigures::default();
     }
 }

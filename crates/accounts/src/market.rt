@@ -1,4 +1,5 @@
-// What all accounts share: how each of the 32 instruments trades, and whether the market is fast.
+// What all accounts share: how each of the 32 instruments trades, and whether the market is fast. It is Copy, so that contracts
+// read it by a function (`trading_in`): a model would need its inverse.
 ghost use Rattle.std.specs.Prelude.{◌≡◌, ◌≤◌, true};
 ghost use Rattle.calls.specs.Calls.{change_in_range};
 ghost use Rattle.accounts.specs.Settings.{quiet, trading_changed};
@@ -45,16 +46,14 @@ impl Market {
     {
         match *change {
             Change::Phase { instrument, phase } => {
-                if let Some(phase) = Phase::numbered(phase) {
+                if let Ok(phase) = Phase::try_from(phase) {
                     self.phases[instrument as usize - 1] = phase;
                 }
             }
             Change::Fast { flag } => {
                 self.fast = flag == 1;
             }
-            Change::Exempt { .. } => {}
-            Change::Quote { .. } => {}
-            Change::Withdraw { .. } => {}
+            Change::Exempt { .. } | Change::Quote { .. } | Change::Withdraw { .. } => {}
         }
     }
 }

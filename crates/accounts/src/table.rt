@@ -9,7 +9,8 @@ mod enrolment;
 
 pub const MOST_ACCOUNTS: usize = 128;
 
-// Room for all 128 accounts is had at the start, so that nothing fails for want of memory later.
+// Room for all 128 accounts is had at the start, so that nothing fails for want of memory later. Contracts name its accounts by
+// a function over the fields and not by a model: what a refused call leaves is all of the table, its room too.
 #[derive(Drop)]
 pub struct Table {
     accounts: Vec<Account>,

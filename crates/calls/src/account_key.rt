@@ -1,6 +1,6 @@
 // What names an account: one maker in one instrument, as given.
 ghost use Rattle.std.specs.Prelude.{◌≡◌};
-ghost use Rattle.calls.specs.Keys.{same_key, instrument_in_range, key_in_range};
+ghost use Rattle.calls.specs.Keys.{instrument_in_range, key_in_range};
 
 use rules::ranges::within;
 
@@ -15,7 +15,7 @@ pub fn instrument_in_range(instrument: u32) -> bool
     within(1, INSTRUMENTS, instrument)
 }
 
-#[derive(Clone, Copy)]
+#[derive(Clone, Copy, PartialEq, Eq)]
 pub struct AccountKey {
     pub maker: u32,
     pub instrument: u32,
@@ -26,11 +26,5 @@ impl AccountKey {
         ensures { result ≡ key_in_range self.now }
     {
         within(1, MAKERS, self.maker) && instrument_in_range(self.instrument)
-    }
-
-    pub fn is_same(&self, other: &AccountKey) -> bool
-        ensures { result ≡ same_key self.now other.now }
-    {
-        self.maker == other.maker && self.instrument == other.instrument
     }
 }

@@ -1,7 +1,5 @@
 // The calls that change a meter, with their fields as given.
 ghost use Rattle.std.specs.Prelude.{◌≡◌};
-ghost use Rattle.rules.specs.Terms.{terms_of};
-ghost use Rattle.calls.specs.Answers.{answer_of};
 ghost use Rattle.calls.specs.Calls.{call_in_range, value_refusal, field_refusal};
 
 use crate::account_key::AccountKey;
@@ -12,7 +10,7 @@ use rules::conditions::Conditions;
 use rules::refusal::Refusal;
 use rules::terms::Terms;
 
-#[derive(Clone, Copy)]
+#[derive(Clone, Copy, PartialEq, Eq)]
 pub enum Call {
     Enrol {
         key: AccountKey,
@@ -35,15 +33,6 @@ pub enum Call {
     Turn,
 }
 
-fn check_conditions(given: Conditions) -> Result<(), Refusal>
-    ensures { result ≡ answer_of (terms_of given) }
-{
-    match Terms::new(given) {
-        Ok(_) => Ok(()),
-        Err(refusal) => Err(refusal),
-    }
-}
-
 impl Call {
     // Whether maker, instrument, stamp, phase and flag are in range.
     fn in_range(&self) -> bool
@@ -64,7 +53,7 @@ impl Call {
         ensures { result ≡ value_refusal self.now }
     {
         match *self {
-            Call::Enrol { conditions, .. } => check_conditions(conditions),
+            Call::Enrol { conditions, .. } => Terms::try_from(conditions).map(|_| ()),
             Call::Open { date } => if date.exists() {
                 Ok(())
             } else {

@@ -1,7 +1,6 @@
-// What a stamped call may set, with its fields as given. Phases have numbers, and a flag is 0 or 1.
+// What a stamped call may set. Phases have numbers, and a flag is 0 or 1: a call takes its numbers as they come, and refuses
+// what is out of range.
 ghost use Rattle.std.specs.Prelude.{◌≡◌};
-ghost use Rattle.rules.specs.Quotes.{quote_of};
-ghost use Rattle.calls.specs.Answers.{answer_of};
 ghost use Rattle.calls.specs.Calls.{flag_in_range, change_in_range, sides_refusal};
 
 use crate::account_key::{AccountKey, instrument_in_range};
@@ -10,7 +9,7 @@ use rules::quote::Quote;
 use rules::refusal::Refusal;
 use rules::sides::Sides;
 
-#[derive(Clone, Copy)]
+#[derive(Clone, Copy, PartialEq, Eq)]
 pub enum Change {
     Phase { instrument: u32, phase: u32 },
     Fast { flag: u32 },
@@ -25,15 +24,6 @@ fn flag_in_range(flag: u32) -> bool
     flag <= 1
 }
 
-fn check_quote(given: Sides) -> Result<(), Refusal>
-    ensures { result ≡ answer_of (quote_of given) }
-{
-    match Quote::new(given) {
-        Ok(_) => Ok(()),
-        Err(refusal) => Err(refusal),
-    }
-}
-
 impl Change {
     // Whether maker, instrument, phase and flag are in range.
     pub fn in_range(&self) -> bool
@@ -41,7 +31,7 @@ impl Change {
     {
         match *self {
             Change::Phase { instrument, phase } => instrument_in_range(instrument)
-                && Phase::numbered(phase).is_some(),
+                && Phase::try_from(phase).is_ok(),
             Change::Fast { flag } => flag_in_range(flag),
             Change::Exempt { key, flag } => key.in_range() && flag_in_range(flag),
             Change::Quote { key, .. } => key.in_range(),
@@ -54,7 +44,7 @@ impl Change {
         ensures { result ≡ sides_refusal self.now }
     {
         match *self {
-            Change::Quote { sides, .. } => check_quote(sides),
+            Change::Quote { sides, .. } => Quote::try_from(sides).map(|_| ()),
             _ => Ok(()),
         }
     }

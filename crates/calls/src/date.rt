@@ -1,10 +1,10 @@
 // A date of the Gregorian calendar, as given.
 ghost use Rattle.std.specs.Prelude.{◌≡◌};
-ghost use Rattle.calls.specs.Calendar.{leap, month_length, is_date, later, same_month};
+ghost use Rattle.calls.specs.Calendar.{leap, month_length, is_date, same_month};
 
 use rules::ranges::within;
 
-#[derive(Clone, Copy)]
+#[derive(Clone, Copy, PartialEq, Eq, PartialOrd, Ord)]
 pub struct Date {
     pub year: u32,
     pub month: u32,
@@ -35,14 +35,6 @@ impl Date {
         within(1, 9999, self.year)
             && within(1, 12, self.month)
             && within(1, days_in(self.year, self.month), self.day)
-    }
-
-    pub fn is_later(&self, than: &Date) -> bool
-        ensures { result ≡ later self.now than.now }
-    {
-        self.year > than.year
-            || self.year == than.year
-                && (self.month > than.month || self.month == than.month && self.day > than.day)
     }
 
     pub fn is_same_month(&self, other: &Date) -> bool

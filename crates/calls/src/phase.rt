@@ -1,8 +1,11 @@
 // How an instrument trades.
-ghost use Rattle.std.specs.Prelude.{◌≡◌};
+ghost use Rattle.std.specs.Prelude.{◌≡◌, ok_or};
+ghost use Rattle.rules.specs.declared.refusal.Refusal.TheVariants.{FieldOutOfRange};
 ghost use Rattle.calls.specs.Phases.{phase_of, continuous};
 
-#[derive(Clone, Copy)]
+use rules::refusal::Refusal;
+
+#[derive(Clone, Copy, PartialEq, Eq)]
 pub enum Phase {
     Closed,
     Auction,
@@ -10,26 +13,27 @@ pub enum Phase {
     Interrupted,
 }
 
-impl Phase {
-    // The phase that has this number in calls.
-    pub fn numbered(number: u32) -> Option<Phase>
-        ensures { result ≡ phase_of number }
-    {
+// The phase that has this number in calls.
+impl TryFrom<u32> for Phase {
+    type Error = Refusal;
+
+    ghost try_from_gives = { λ number r. r ≡ ok_or (phase_of number) FieldOutOfRange };
+
+    fn try_from(number: u32) -> Result<Self, Refusal> {
         match number {
-            0 => Some(Phase::Closed),
-            1 => Some(Phase::Auction),
-            2 => Some(Phase::Continuous),
-            3 => Some(Phase::Interrupted),
-            _ => None,
+            0 => Ok(Phase::Closed),
+            1 => Ok(Phase::Auction),
+            2 => Ok(Phase::Continuous),
+            3 => Ok(Phase::Interrupted),
+            _ => Err(Refusal::FieldOutOfRange),
         }
     }
+}
 
+impl Phase {
     pub fn is_continuous(&self) -> bool
         ensures { result ≡ continuous self.now }
     {
-        match self {
-            Phase::Continuous => true,
-            _ => false,
-        }
+        *self == Phase::Continuous
     }
 }

@@ -32,10 +32,7 @@ fn day_by_day(rt: HostRuntime) {
                         number,
                         "{year} {month} {day}"
                     );
-                    assert!(rt;
-                        next.is_later(&last) && !last.is_later(&next),
-                        "{year} {month} {day}"
-                    );
+                    assert!(rt; next > last && !(last > next), "{year} {month} {day}");
                     last = next;
                     dates = dates.saturating_add(1);
                     // 1 January 2000 is a Saturday, so that of every seven dates the last is a Friday

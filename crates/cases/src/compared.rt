@@ -1,5 +1,6 @@
 // Two runs side by side: a tighter copy of a day, and a day with the order of two calls of one stamp changed.
-use calls::account_key::AccountKey;
+use crate::day::{BY_VIENNA, KEY};
+use crate::number::number;
 use calls::call::Call;
 use calls::change::Change;
 use calls::date::Date;
@@ -7,18 +8,12 @@ use laws::compare::{Compared, compare};
 use laws::replay::Run;
 use rules::conditions::Conditions;
 use rules::ratio::Ratio;
-use rules::refusal::Refusal;
 use rules::sides::Sides;
 use rules::verdict::Verdict;
 use rules::vienna::Vienna;
 use std::alloc::AllocError;
 use std::process::Abort;
 use std::test::Fail;
-
-const KEY: AccountKey = AccountKey {
-    maker: 7,
-    instrument: 12,
-};
 
 // Class 1, relative: 100,000/100,750 meets, 100,000/100,751 does not. Owes 7000 basis points.
 const ENROLLED: Call = Call::Enrol {
@@ -70,14 +65,7 @@ fn compared(
     first: &[Call],
     second: &[Call],
 ) -> Result<Compared<Vienna, Ratio>, AllocError> {
-    compare(rt.alloc(), Vienna, Ratio, Vienna, Ratio, first, second)
-}
-
-fn number(answer: &Result<(), Refusal>) -> u8 {
-    match answer {
-        Ok(_) => 0,
-        Err(refusal) => refusal.number(),
-    }
+    compare(rt.alloc(), BY_VIENNA, BY_VIENNA, first, second)
 }
 
 // The calls were answered by these numbers, 0 for accepted, and the month has 1000 milliseconds obliged and these qualified.

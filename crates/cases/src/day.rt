@@ -1,5 +1,6 @@
 // A day through the meter's calls: a maker that is obliged from 9:00 to 17:30 quotes from 9:30 to 15:30. And a list of calls
 // with fewer and with more places for its answers.
+use crate::number::number;
 use calls::account_key::AccountKey;
 use calls::call::Call;
 use calls::date::Date;
@@ -7,15 +8,21 @@ use meter::meter::Meter;
 use rules::conditions::Conditions;
 use rules::ratio::Ratio;
 use rules::refusal::Refusal;
+use rules::rulebook::Rulebook;
 use rules::sides::Sides;
 use rules::verdict::Verdict;
 use rules::vienna::Vienna;
 use std::process::Abort;
 use std::test::Fail;
 
-const KEY: AccountKey = AccountKey {
+pub(crate) const KEY: AccountKey = AccountKey {
     maker: 7,
     instrument: 12,
+};
+
+pub(crate) const BY_VIENNA: Rulebook<Vienna, Ratio> = Rulebook {
+    quote_rule: Vienna,
+    month_rule: Ratio,
 };
 
 // Class 3, relative, at least 300 pieces.
@@ -57,7 +64,7 @@ fn check_day(
     kept_days: u32,
     verdict: Verdict,
 ) -> Result<(), Fail> {
-    let mut meter = Meter::new(rt.alloc(), Vienna, Ratio)?;
+    let mut meter = Meter::new(rt.alloc(), BY_VIENNA)?;
     trade(&mut meter, threshold)?;
     let statement = meter.statement(&KEY)?;
     let month = statement.figures.month;
@@ -74,18 +81,11 @@ fn three_thresholds(rt: HostRuntime) -> Result<(), Fail> {
     check_day(&rt, 7059, 0, Verdict::Breach)
 }
 
-fn number(answer: &Result<(), Refusal>) -> u8 {
-    match answer {
-        Ok(_) => 0,
-        Err(refusal) => refusal.number(),
-    }
-}
-
 // Two turns and a close without a day, run with fewer places than calls and with more. Places behind the calls stay.
 #[test]
 fn places_for_answers(rt: HostRuntime) -> Result<(), Fail> {
     let calls = [Call::Turn, Call::Close { stamp: 5 }, Call::Turn];
-    let mut meter = Meter::new(rt.alloc(), Vienna, Ratio)?;
+    let mut meter = Meter::new(rt.alloc(), BY_VIENNA)?;
     let mut two = [Err(Refusal::TableFull); 2];
     assert_eq!(rt; meter.run(&calls, &mut two), 2);
     assert_eq!(rt; (number(&two[0]), number(&two[1])), (0, 9));

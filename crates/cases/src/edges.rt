@@ -1,4 +1,4 @@
-// The edges of the three markets: those that are proved, and those that are only run.
+// The edges of the three exchanges: those that are proved, and those that are only run.
 use crate::table::check_rows;
 use rules::beta::Beta;
 use rules::vienna::Vienna;

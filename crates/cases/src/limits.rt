@@ -1,7 +1,7 @@
 // Which numbers make a quote and terms, and with which number the others are refused.
+use crate::number::number;
 use rules::conditions::Conditions;
 use rules::quote::Quote;
-use rules::refusal::Refusal;
 use rules::sides::Sides;
 use rules::terms::Terms;
 
@@ -11,21 +11,6 @@ fn sides(bid: u32, ask: u32, bid_size: u32, ask_size: u32) -> Sides {
         ask,
         bid_size,
         ask_size,
-    }
-}
-
-// The number of a refusal, and 0 where there is none.
-fn quoted(given: Sides) -> u8 {
-    match Quote::new(given) {
-        Ok(_) => 0,
-        Err(refusal) => refusal.number(),
-    }
-}
-
-fn agreed(given: Conditions) -> u8 {
-    match Terms::new(given) {
-        Ok(_) => 0,
-        Err(refusal) => refusal.number(),
     }
 }
 
@@ -49,7 +34,7 @@ fn quotes(rt: HostRuntime) {
         (sides(1, 0, 1, 1), 5),
     ];
     for (place, case) in cases.iter().enumerate() {
-        assert_eq!(rt; quoted(case.0), case.1, "quote {place}");
+        assert_eq!(rt; number(&Quote::try_from(case.0)), case.1, "quote {place}");
     }
 }
 
@@ -123,6 +108,6 @@ fn terms(rt: HostRuntime) {
         ),
     ];
     for (place, case) in cases.iter().enumerate() {
-        assert_eq!(rt; agreed(case.0), case.1, "terms {place}");
+        assert_eq!(rt; number(&Terms::try_from(case.0)), case.1, "terms {place}");
     }
 }

@@ -18,14 +18,14 @@ pub(crate) fn check_rows<Q: QuoteRule>(
 ) -> Result<(), Fail> {
     for (place, row) in rows.iter().enumerate() {
         let ((class, tier, limit, minimum), (bid, ask, bid_size, ask_size), meets) = *row;
-        let terms = Terms::new(Conditions {
+        let terms = Terms::try_from(Conditions {
             class,
             tier,
             limit,
             minimum,
             threshold: 7000,
         })?;
-        let quote = Quote::new(Sides {
+        let quote = Quote::try_from(Sides {
             bid,
             ask,
             bid_size,

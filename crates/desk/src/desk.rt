@@ -2,12 +2,14 @@
 ghost use Rattle.std.specs.Prelude.{◌≡◌, None};
 ghost use Rattle.rules.specs.Terms.{terms_of};
 ghost use Rattle.rules.specs.Quotes.{quote_of};
-ghost use Rattle.desk.specs.Replies.{terms_reply, replaced, quote_reply, reply_to, standing_after, tallied, BetterKeepsMeeting};
+ghost use Rattle.desk.specs.Answers.{terms_answer, replaced, quote_answer, answer_to, standing_after, tallied, BetterKeepsMeeting};
 ghost use Rattle.desk.specs.Tallies.{none_judged};
 
-use crate::reply::Reply;
+use crate::answer::Answer;
 use crate::request::Request;
 use crate::tally::Tally;
+use answers::answerer::Answerer;
+use answers::fault::Fault;
 use rules::conditions::Conditions;
 use rules::quote::Quote;
 use rules::quote_rule::QuoteRule;
@@ -49,62 +51,49 @@ impl<Q: QuoteRule + Drop> Desk<Q> {
     }
 
     // Sets the terms, where they are lawful.
-    fn agree(&mut self, given: Conditions) -> Reply
-        ensures reply { result ≡ terms_reply (terms_of given) }
+    fn agree(&mut self, given: Conditions) -> Result<Answer, Fault>
+        ensures answer { result ≡ terms_answer (terms_of given) }
         ensures standing { self.new.standing ≡ replaced self.old.standing (terms_of given) }
         ensures tally { self.new.tally ≡ self.old.tally }
         ensures rule { self.new.rule ≡ self.old.rule }
     {
-        match Terms::new(given) {
-            Ok(terms) => {
-                self.standing = Some(terms);
-                Reply::Accepted
-            }
-            Err(refusal) => Reply::Refused(refusal),
-        }
+        let terms = Terms::try_from(given)?;
+        self.standing = Some(terms);
+        Ok(Answer::Accepted)
     }
 
     // Holds a quote against the terms that stand.
-    fn judge(&self, sides: Sides) -> Reply
-        ensures { result ≡ quote_reply (Q.QuoteRule.meets self.now.rule) self.now.standing (quote_of sides) }
+    fn judge(&self, sides: Sides) -> Result<Answer, Fault>
+        ensures { result ≡ quote_answer (Q.QuoteRule.meets self.now.rule) self.now.standing (quote_of sides) }
     {
-        let Some(terms) = self.standing else {
-            return Reply::Unreadable;
+        let terms = self.standing.ok_or(Fault::Unreadable)?;
+        let quote = Quote::try_from(sides)?;
+        Ok(if self.rule.meets(&quote, &terms) {
+            Answer::Meets
+        } else {
+            Answer::DoesNotMeet
+        })
+    }
+}
+
+// What comes of a request, and the desk after it. Terms that are refused leave those that stand.
+impl<Q: QuoteRule + Drop> Answerer for Desk<Q> {
+    type Question = Request;
+
+    type Answer = Answer;
+
+    ghost answers = { λ desk request answer left.
+        (answer ≡ answer_to (Q.QuoteRule.meets desk.rule) desk.standing request)
+        × (left.standing ≡ standing_after desk.standing request)
+        × (left.tally ≡ tallied desk.tally answer)
+        × (left.rule ≡ desk.rule) };
+
+    fn answer(&mut self, request: &Request) -> Result<Answer, Fault> {
+        let answer = match *request {
+            Request::Terms(given) => self.agree(given)?,
+            Request::Quote(sides) => self.judge(sides)?,
         };
-        match Quote::new(sides) {
-            Ok(quote) => if self.rule.meets(&quote, &terms) {
-                Reply::Meets
-            } else {
-                Reply::DoesNotMeet
-            },
-            Err(refusal) => Reply::Refused(refusal),
-        }
-    }
-
-    // What comes of a request, before it is counted.
-    fn reply(&mut self, request: &Request) -> Option<Reply>
-        ensures reply { result ≡ reply_to (Q.QuoteRule.meets self.old.rule) self.old.standing request.now }
-        ensures standing { self.new.standing ≡ standing_after self.old.standing request.now }
-        ensures tally { self.new.tally ≡ self.old.tally }
-        ensures rule { self.new.rule ≡ self.old.rule }
-    {
-        match *request {
-            Request::Silent => None,
-            Request::Terms(given) => Some(self.agree(given)),
-            Request::Quote(sides) => Some(self.judge(sides)),
-            Request::Unreadable => Some(Reply::Unreadable),
-        }
-    }
-
-    // What comes of a request, and the desk after it. Terms that are refused leave those that stand.
-    pub fn answer(&mut self, request: &Request) -> Option<Reply>
-        ensures reply { result ≡ reply_to (Q.QuoteRule.meets self.old.rule) self.old.standing request.now }
-        ensures standing { self.new.standing ≡ standing_after self.old.standing request.now }
-        ensures tally { self.new.tally ≡ tallied result self.old.tally }
-        ensures rule { self.new.rule ≡ self.old.rule }
-    {
-        let reply = self.reply(request)?;
-        self.tally.count(&reply);
-        Some(reply)
+        self.tally.count(&answer);
+        Ok(answer)
     }
 }

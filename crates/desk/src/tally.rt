@@ -2,7 +2,7 @@
 ghost use Rattle.std.specs.Prelude.{◌≡◌, Some};
 ghost use Rattle.desk.specs.Tallies.{none_judged, judged_in, counted, tally_text};
 
-use crate::reply::Reply;
+use crate::answer::Answer;
 use std::fmt;
 
 #[derive(Clone, Copy)]
@@ -28,14 +28,14 @@ impl Tally {
         self.meet.saturating_add(self.do_not_meet)
     }
 
-    // One reply more: only a judged quote counts.
-    pub fn count(&mut self, reply: &Reply)
-        ensures { self.new ≡ counted reply.now self.old }
+    // One answer more: only a judged quote counts.
+    pub fn count(&mut self, answer: &Answer)
+        ensures { self.new ≡ counted self.old answer.now }
     {
-        match reply {
-            Reply::Meets => self.meet = self.meet.saturating_add(1),
-            Reply::DoesNotMeet => self.do_not_meet = self.do_not_meet.saturating_add(1),
-            Reply::Accepted | Reply::Refused(_) | Reply::Unreadable => {}
+        match answer {
+            Answer::Meets => self.meet = self.meet.saturating_add(1),
+            Answer::DoesNotMeet => self.do_not_meet = self.do_not_meet.saturating_add(1),
+            Answer::Accepted => {}
         }
     }
 }
@@ -44,12 +44,12 @@ impl fmt::Display for Tally {
     ghost output = { λ tally. Some (tally_text tally) };
 
     fn fmt<W: fmt::Write>(&self, f: &mut fmt::Formatter<W>) -> fmt::Result {
-        let judged = self.judged();
-        let meet = self.meet;
-        let do_not_meet = self.do_not_meet;
         write!(
             f,
-            "quotes judged: {judged}, meet: {meet}, do not meet: {do_not_meet}"
+            "quotes judged: {}, meet: {}, do not meet: {}",
+            self.judged(),
+            self.meet,
+            self.do_not_meet
         )
     }
 }

@@ -1,3 +1,3 @@
 pub mod Texts
-pub mod Replies
+pub mod Answers
 pub mod Standings

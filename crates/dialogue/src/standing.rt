@@ -1,11 +1,10 @@
 // How an account stands: its statement; or its figures, where no statement is given; or why it has neither.
+// No Result of either, since there are three ways, and in the second figures and a refusal stand side by side.
 ghost use Rattle.std.specs.Prelude.{◌≡◌, Some};
 ghost use Rattle.accounts.specs.Steps.{figures, statement};
 ghost use Rattle.book.specs.View.{view};
 ghost use Rattle.dialogue.specs.Standings.{standing_of, standing_text};
 
-use crate::figures_text::FiguresText;
-use crate::statement_text::StatementText;
 use accounts::figures::Figures;
 use accounts::statement::Statement;
 use calls::account_key::AccountKey;
@@ -27,7 +26,7 @@ impl Standing {
         meter: &Meter<Q, M>,
         key: &AccountKey,
     ) -> Standing
-        ensures { result ≡ standing_of (figures (view meter.now.book) key.now) (statement (M.MonthRule.verdict meter.now.month_rule) (view meter.now.book) key.now) }
+        ensures { result ≡ standing_of (figures (view meter.now.book) key.now) (statement (M.MonthRule.verdict meter.now.rulebook.month_rule) (view meter.now.book) key.now) }
     {
         match meter.statement(key) {
             Ok(statement) => Standing::Stated(statement),
@@ -44,21 +43,9 @@ impl fmt::Display for Standing {
 
     fn fmt<W: fmt::Write>(&self, f: &mut fmt::Formatter<W>) -> fmt::Result {
         match self {
-            Standing::Stated(statement) => {
-                let text = StatementText {
-                    statement: *statement,
-                };
-                write!(f, "{text}")
-            }
-            Standing::Unstated { figures, refusal } => {
-                let text = FiguresText { figures: *figures };
-                let number = refusal.number();
-                write!(f, "{text} refused {number}")
-            }
-            Standing::Refused(refusal) => {
-                let number = refusal.number();
-                write!(f, "refused {number}")
-            }
+            Standing::Stated(statement) => statement.fmt(f),
+            Standing::Unstated { figures, refusal } => write!(f, "{figures} {refusal}"),
+            Standing::Refused(refusal) => refusal.fmt(f),
         }
     }
 }

@@ -10,5 +10,5 @@ pub fn chosen_exchange(rt: &HostRuntime) -> Option<Exchange> {
     if args.next().is_some() {
         return None;
     }
-    Exchange::named(name.as_str())
+    name.as_str().parse().ok()
 }

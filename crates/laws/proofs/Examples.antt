@@ -1,4 +1,4 @@
--- The worked instances, by computation.
+-- The worked instances of the two laws over two runs.
 use Rattle.std.proofs.Common.{◌≡◌, ℕ, ◌≢◌, refl, arith}
 use Rattle.rules.specs.Quotes.{quote_made}
 use Rattle.calls.specs.declared.account_key.AccountKey.{AccountKey}
@@ -6,10 +6,7 @@ use Rattle.calls.specs.declared.change.Change.TheVariants.{Phase, Quote}
 use Rattle.laws.specs.Tighter.{same, tightened, quoted, nil, cons}
 use Rattle.laws.specs.Exchange.{thing, at_once, here, later, none, first}
 use Rattle.laws.specs.Examples.{account, stranger, narrow, wide}
-use Rattle.laws.specs.Examples.{WorkedDay, TighterTurnsBreachIntoKept, ExchangedPairs, DayByTheMilliseconds, MonthsByTheMilliseconds}
-
-pub worked_day : WorkedDay
-worked_day = record { answers = refl; kept = refl; just_kept = refl; just_breached = refl }
+use Rattle.laws.specs.Examples.{TighterTurnsBreachIntoKept, ExchangedPairs}
 
 pub tighter_turns_breach_into_kept : TighterTurnsBreachIntoKept
 tighter_turns_breach_into_kept = record {
@@ -46,18 +43,4 @@ exchanged_pairs = record {
   answers_differ = λ e. let z : ◌≡◌ {A = ℕ} 0 1 = cc in omega arith;
   phases_first_stated = refl;
   quotes_first_stated = refl;
-}
-
-pub day_by_the_milliseconds : DayByTheMilliseconds
-day_by_the_milliseconds = record { answers = refl; counted_open = refl; told_open = refl; counted_closed = refl; told_closed = refl }
-
-pub months_by_the_milliseconds : MonthsByTheMilliseconds
-months_by_the_milliseconds = record {
-  answers = refl;
-  counted_in_march = refl;
-  told_in_march = refl;
-  counted_when_turned = refl;
-  told_when_turned = refl;
-  counted_in_april = refl;
-  told_in_april = refl;
 }

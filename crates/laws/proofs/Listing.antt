@@ -1,6 +1,5 @@
--- The tables and edges by computation, and the flat lists of refusals by cases.
-use Rattle.std.proofs.Common.{◌≡◌, ℕ, Bool, true, false, cond, not, ◌&&◌, eqb, ltb, is_some, Some, None, Ok, Err, Option, sym, refl, arith}
-use Rattle.std.proofs.lemmas.Bool.{eq-eqb, ne_eqb}
+-- The flat lists of refusals, by cases.
+use Rattle.std.proofs.Common.{◌≡◌, ℕ, Bool, true, false, cond, not, ◌&&◌, eqb, ltb, is_some, Some, None, Ok, Err, Option, refl, arith}
 use Rattle.std.proofs.lemmas.Bool.Decides.{nat_tests}
 use Rattle.rules.specs.declared.conditions.Conditions.{Conditions}
 use Rattle.rules.specs.declared.refusal.Refusal.{Refusal}
@@ -19,80 +18,7 @@ use Rattle.accounts.specs.declared.statement.Statement.{Statement}
 use Rattle.accounts.specs.States.{State}
 use Rattle.accounts.specs.Refusals.{account_of}
 use Rattle.accounts.specs.Steps.{Judgement, told, stated}
-use Rattle.laws.specs.Listing.{ObligedInOneOfSixteen, PhasesByNumber, ChangesListed, QualifiedListed, KeptDayEdges}
-use Rattle.laws.specs.Listing.{RangeEdges, CalendarListed, idle, RefusalsInOrder, FramesListed}
-
-pub obliged_in_one_of_sixteen : ObligedInOneOfSixteen
-obliged_in_one_of_sixteen = record { closed = λ q. refl; auction = λ q. refl; continuous = λ q. refl; interrupted = λ q. refl }
-
-pub phases_by_number : PhasesByNumber
-phases_by_number = record { named = refl; unnamed = refl }
-
-pub changes_listed : ChangesListed
-changes_listed = record {
-  phase_of_all_makers = λ m i s. rw (eq-eqb i i refl) refl;
-  phase_elsewhere = λ m i j p s h. rw (ne_eqb i j h) refl;
-  fast = λ s. refl;
-  fast_ended = λ s. refl;
-  fast_of_all = λ s. refl;
-  exempt = λ s. refl;
-  exempt_ended = λ s. refl;
-  exempt_another = λ s. refl;
-  exempt_elsewhere = λ s. refl;
-  quote = λ s. refl;
-  quote_another = λ s. refl;
-  quote_elsewhere = λ s. refl;
-  withdrawn = λ s. refl;
-  withdrawn_another = λ s. refl;
-  withdrawn_elsewhere = λ s. refl;
-}
-
-pub qualified_listed : QualifiedListed
-qualified_listed = record { not_obliged = refl; in_a_fast_market = refl; exempted = refl; without_a_quote = refl; too_wide = refl; meeting = refl }
-
-pub kept_day_edges : KeptDayEdges
-kept_day_edges = record { nothing_obliged = refl; at_threshold = refl; below_threshold = refl }
-
-pub range_edges : RangeEdges
-range_edges = record {
-  makers = refl;
-  instruments = refl;
-  instruments_alone = refl;
-  stamps = refl;
-  flags = refl;
-  classes = refl;
-  tiers = refl;
-  limits = refl;
-  minimums = refl;
-  thresholds = refl;
-  bids = refl;
-  asks = refl;
-  bid_sizes = refl;
-  ask_sizes = refl;
-}
-
-pub calendar_listed : CalendarListed
-calendar_listed = record {
-  months_of_2023 = refl;
-  februaries = refl;
-  years = refl;
-  months = refl;
-  days = refl;
-  later_by_a_day = refl;
-  later_by_a_month = refl;
-  later_by_a_year = refl;
-  earlier_by_a_day = refl;
-  earlier_by_a_month = refl;
-  earlier_by_a_year = refl;
-  not_later_than_itself = refl;
-  of_one_month = refl;
-  of_another_month = refl;
-  of_another_year = refl;
-  after_none = λ d. refl;
-  after_the_last = refl;
-  month_after_none = λ d. refl;
-  month_after_the_last = refl;
-}
+use Rattle.laws.specs.Listing.{idle, RefusalsInOrder}
 
 -- A condition in front of a second answer, one of two tests taken apart, and a choice read as a condition.
 
@@ -167,14 +93,4 @@ refusals_in_order s = record {
   figures_told = λ k a e f. rw (e, f) refl;
   statement_refused = λ judge k. rw (statement_by judge (key_in_range k) s.frame.day_open (account_of k s.accounts)) (simp (cond_is_when));
   statement_told = λ judge k a e f g h. rw (e, f, g, h) refl;
-}
-
-pub frames_listed : FramesListed
-frames_listed k t d n c m f = record {
-  clocks = refl;
-  days_open = refl;
-  last_dates = refl;
-  days_closed = refl;
-  phases = λ l s e. rw (sym e) refl;
-  fast_markets = λ l s e. rw (sym e) refl;
 }

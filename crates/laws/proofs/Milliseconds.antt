@@ -1,7 +1,9 @@
 -- Why every figure is a count over milliseconds.
-use Rattle.std.proofs.Common.{◌≡◌, ℕ, zero, suc, ◌+◌, ◌-◌, ◌<◌, ◌≤◌, Bool, true, false, cond, ◌⊎◌, List, [], ◌∷◌, ◌++◌, map, is_some, Some, None, Ok, Err, Option, Result, sym, refl, ap, ◌∙◌, ap₂, inl, inr, add-one, arith}
+use Rattle.std.proofs.Common.{◌≡◌, ℕ, zero, suc, ◌+◌, ◌-◌, ◌<◌, ◌≤◌, Bool, true, false, cond, ◌⊎◌, List, [], ◌∷◌, ◌++◌, map, filter, is_some, Some, None, Ok, Err, Option, Result, sym, refl, ap, ◌∙◌, ap₂, inl, inr, add-one, arith}
 use Rattle.std.proofs.lemmas.Bool.{both_ways, false≢true, le-leb, lt-leb, cases_lt}
 use Rattle.std.proofs.lemmas.Bool.Decides.{nat_tests}
+use Rattle.std.proofs.lemmas.List.{append-nil}
+use Rattle.std.proofs.lemmas.List.Elements.{filter-append}
 use Rattle.std.specs.Result.{result_ok}
 use Rattle.rules.specs.declared.refusal.Refusal.{Refusal}
 use Rattle.rules.specs.declared.terms.Terms.{Terms}
@@ -21,7 +23,6 @@ use Rattle.accounts.specs.Accounts.{is, setting_of, settled, account_opened, acc
 use Rattle.accounts.specs.States.{Frame, State}
 use Rattle.accounts.specs.Refusals.{enrolled, refusal}
 use Rattle.accounts.specs.Steps.{frame_after, taken, unless_refused, run, answers, just_made, told, Judgement, stated}
-use Rattle.laws.specs.Tighter.{keep}
 use Rattle.laws.specs.Milliseconds.{accepted_onto, accepted_calls, day_open, Stamped, changes, terms_now, Day, closed_days}
 use Rattle.laws.specs.Milliseconds.{setting_at, last_stamp, time_below, today as today_counted, month as month_counted}
 use Rattle.laws.specs.Milliseconds.{figures_counted, counted_for, judged, judged_for, MillisecondsTell}
@@ -60,29 +61,28 @@ behind [] = []
 behind (x ∷ xs) = xs
 
 module _ {A : Type 0} (p : A → Bool) where
-  find_keep : (xs : List A) → find p xs ≡ front (keep p xs)
-  find_keep [] = refl
-  find_keep (x ∷ xs) = let ih = find_keep xs in grind arith
+  find_filter : (xs : List A) → find p xs ≡ front (filter p xs)
+  find_filter [] = refl
+  find_filter (x ∷ xs) = let ih = find_filter xs in grind arith
 
-  keep_map : (g : A → A) → ((x : A) → p (g x) ≡ p x) → (xs : List A) → keep p (map g xs) ≡ map g (keep p xs)
-  keep_map g e [] = refl
-  keep_map g e (x ∷ xs) = let ih = keep_map g e xs in let h = e x in grind arith
+  filter_mapped : (g : A → A) → ((x : A) → p (g x) ≡ p x) → (xs : List A) → filter p (map g xs) ≡ map g (filter p xs)
+  filter_mapped g e [] = refl
+  filter_mapped g e (x ∷ xs) = let ih = filter_mapped g e xs in let h = e x in grind arith
 
-  keep_old : (xs ys : List A) → keep p ys ≡ [] → keep p (xs ++ ys) ≡ keep p xs
-  keep_old [] ys e = e
-  keep_old (x ∷ xs) ys e = let ih = keep_old xs ys e in grind arith
+  filter_old : (xs ys : List A) → filter p ys ≡ [] → filter p (xs ++ ys) ≡ filter p xs
+  filter_old xs ys e = rw (filter-append p xs ys, e) (append-nil (filter p xs))
 
-  keep_new : (xs ys : List A) → is_some (find p xs) ≡ false → keep p (xs ++ ys) ≡ keep p ys
-  keep_new [] ys e = refl
-  keep_new (x ∷ xs) ys e = let ih = keep_new xs ys in grind arith
+  filter_new : (xs ys : List A) → is_some (find p xs) ≡ false → filter p (xs ++ ys) ≡ filter p ys
+  filter_new [] ys e = refl
+  filter_new (x ∷ xs) ys e = let ih = filter_new xs ys in grind arith
 
-  keep_behind : (xs : List A) → keep p (without p xs) ≡ behind (keep p xs)
-  keep_behind [] = refl
-  keep_behind (x ∷ xs) = let ih = keep_behind xs in grind arith
+  filter_behind : (xs : List A) → filter p (without p xs) ≡ behind (filter p xs)
+  filter_behind [] = refl
+  filter_behind (x ∷ xs) = let ih = filter_behind xs in grind arith
 
-  keep_without : (q : A → Bool) → ((x : A) → q x ≡ true → p x ≡ false) → (xs : List A) → keep p (without q xs) ≡ keep p xs
-  keep_without q apart [] = refl
-  keep_without q apart (x ∷ xs) = let ih = keep_without q apart xs in let h = apart x in grind arith
+  filter_without : (q : A → Bool) → ((x : A) → q x ≡ true → p x ≡ false) → (xs : List A) → filter p (without q xs) ≡ filter p xs
+  filter_without q apart [] = refl
+  filter_without q apart (x ∷ xs) = let ih = filter_without q apart xs in let h = apart x in grind arith
 
 -- What the accepted calls tell of the account that k names.
 module _ (rule : Rule) (k : AccountKey) where
@@ -104,7 +104,7 @@ module _ (rule : Rule) (k : AccountKey) where
 
   record Tells (s : State) (past : List Call) : Type 0 where
     day : s.frame.day_open ≡ day_open past
-    named : Named s.frame (terms_now k past) (changes past) (closed_days k past) (keep (is k) s.accounts)
+    named : Named s.frame (terms_now k past) (changes past) (closed_days k past) (filter (is k) s.accounts)
 
   -- The calls that map every account.
   module _ {f : Frame} {t : Option Terms} {xs : List Stamped} {ds : List Day} (a : Account) (h : Counted f t xs ds a) where
@@ -159,12 +159,12 @@ module _ (rule : Rule) (k : AccountKey) where
     named_each (one_account a x) = one_account (g a) (h a x)
 
     named_map : ((a : Account) → is k (g a) ≡ is k a) → (accounts : List Account) →
-        Named f t xs ds (keep (is k) accounts) → Named f' t xs' ds' (keep (is k) (map g accounts))
-    named_map same accounts x = rw (keep_map (is k) g same accounts) (named_each x)
+        Named f t xs ds (filter (is k) accounts) → Named f' t xs' ds' (filter (is k) (map g accounts))
+    named_map same accounts x = rw (filter_mapped (is k) g same accounts) (named_each x)
 
   -- The calls that add or remove one account: this one, or another.
   named_new : (f : Frame) (xs : List Stamped) (r : Result Terms Refusal) → same_key k k ≡ true → f.day_open ≡ false →
-      Named f (result_ok r) xs [] (keep (is k) (newcomer k r))
+      Named f (result_ok r) xs [] (filter (is k) (newcomer k r))
   named_new f xs (Ok t) own none_open = rw own (one_account (newly_enrolled k t) (record {
     key = refl;
     terms = refl;
@@ -175,7 +175,7 @@ module _ (rule : Rule) (k : AccountKey) where
   }))
   named_new f xs (Err e) own none_open = no_account refl
 
-  other_new : (l : AccountKey) (r : Result Terms Refusal) → same_key l k ≡ false → keep (is k) (newcomer l r) ≡ []
+  other_new : (l : AccountKey) (r : Result Terms Refusal) → same_key l k ≡ false → filter (is k) (newcomer l r) ≡ []
   other_new l (Ok t) other = let e : same_key k l ≡ false = grind (arith, nat_tests) in rw e
   other_new l (Err e) other = refl
 
@@ -184,17 +184,17 @@ module _ (rule : Rule) (k : AccountKey) where
     named_behind (no_account e) = no_account refl
     named_behind (one_account a h) = no_account refl
 
-    module _ (accounts : List Account) (h : Named f t xs ds (keep (is k) accounts)) (l : AccountKey) where
+    module _ (accounts : List Account) (h : Named f t xs ds (filter (is k) accounts)) (l : AccountKey) where
       named_enrolled : (b : Bool) (r : Result Terms Refusal) → same_key l k ≡ b → f.day_open ≡ false → enrolled l accounts ≡ false →
-          Named f (cond b (result_ok r) t) xs (cond b [] ds) (keep (is k) (accounts ++ newcomer l r))
+          Named f (cond b (result_ok r) t) xs (cond b [] ds) (filter (is k) (accounts ++ newcomer l r))
       named_enrolled true r own none_open free =
           let e = same_keys l k own in
-          rw (e, keep_new (is k) accounts (newcomer k r) (rw e at free)) (named_new f xs r (rw e at own) none_open)
-      named_enrolled false r other none_open free = rw (keep_old (is k) accounts (newcomer l r) (other_new l r other)) h
+          rw (e, filter_new (is k) accounts (newcomer k r) (rw e at free)) (named_new f xs r (rw e at own) none_open)
+      named_enrolled false r other none_open free = rw (filter_old (is k) accounts (newcomer l r) (other_new l r other)) h
 
-      named_struck : (b : Bool) → same_key l k ≡ b → Named f (cond b None t) xs ds (keep (is k) (without (is l) accounts))
-      named_struck true own = rw (same_keys l k own, keep_behind (is k) accounts) (named_behind h)
-      named_struck false other = rw (keep_without (is k) (is l) (λ a e. grind (arith, nat_tests)) accounts) h
+      named_struck : (b : Bool) → same_key l k ≡ b → Named f (cond b None t) xs ds (filter (is k) (without (is l) accounts))
+      named_struck true own = rw (same_keys l k own, filter_behind (is k) accounts) (named_behind h)
+      named_struck false other = rw (filter_without (is k) (is l) (λ a e. grind (arith, nat_tests)) accounts) h
 
   -- With every accepted call the past has one call more.
   taken_tells : (s : State) (past : List Call) (c : Call) → Unopposed s c → Tells s past → Tells (taken rule s c) (c ∷ past)
@@ -257,6 +257,6 @@ milliseconds_tell rule judge cs k =
     let s = run rule just_made cs in
     let past = accepted_calls cs (answers rule just_made cs) in
     let h = runs_tell rule k cs just_made [] (record { day = refl; named = no_account refl }) in
-    let found = find_keep (is k) s.accounts in
+    let found = find_filter (is k) s.accounts in
     let answered = answers_told rule k judge s.frame past h.day h.named in
     (rw (found, answered.0), rw (found, h.day, answered.1))

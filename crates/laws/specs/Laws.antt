@@ -1,19 +1,15 @@
 -- The laws over two runs.
-use Rattle.std.specs.Prelude.{◌≡◌, Bool, List}
-use Rattle.rules.specs.declared.quote.Quote.{Quote}
-use Rattle.calls.specs.declared.call.Call.{Call}
-use Rattle.calls.specs.Answers.{Answer}
-use Rattle.accounts.specs.States.{State}
-use Rattle.accounts.specs.Counting.{Rule}
-use Rattle.accounts.specs.Steps.{Judgement}
+use Rattle.std.specs.Prelude.{◌≡◌}
+use Rattle.laws.specs.Runs.{Outcome}
 use Rattle.laws.specs.Tighter.{TighterNeverCosts}
 use Rattle.laws.specs.Exchange.{OrderNeverMatters}
 use Rattle.laws.specs.Milliseconds.{MillisecondsTell}
 
--- The first meter, by the rules meets and judge, took the calls cs, answered xs and was left at s; the second, by meets' and
--- judge', took ds, answered ys and was left at t. Meters are made alike where their rules mean the same.
-pub record LawsHold (meets meets' : Rule) (better : Quote → Quote → Bool) (judge judge' : Judgement) (cs ds : List Call) (xs ys : List Answer) (s t : State) : Type 0 where
-  pub tighter : meets ≡ meets' → judge ≡ judge' → TighterNeverCosts better judge cs ds xs ys s t
-  pub order : meets ≡ meets' → judge ≡ judge' → OrderNeverMatters judge cs ds xs ys s t
-  pub first_time : MillisecondsTell meets judge cs xs s
-  pub second_time : MillisecondsTell meets' judge' ds ys t
+-- Meters are made alike where their rules mean the same.
+pub record LawsHold (one two : Outcome) : Type 0 where
+  pub tighter : one.meets ≡ two.meets → one.judge ≡ two.judge →
+      TighterNeverCosts one.better one.judge one.calls two.calls one.answers two.answers one.left two.left
+  pub order : one.meets ≡ two.meets → one.judge ≡ two.judge →
+      OrderNeverMatters one.judge one.calls two.calls one.answers two.answers one.left two.left
+  pub first_time : MillisecondsTell one.meets one.judge one.calls one.answers one.left
+  pub second_time : MillisecondsTell two.meets two.judge two.calls two.answers two.left

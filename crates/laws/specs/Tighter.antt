@@ -1,5 +1,5 @@
 -- Tighter quoting never costs.
-use Rattle.std.specs.Prelude.{◌≡◌, ℕ, ◌≤◌, Bool, true, false, cond, List, [], ◌∷◌, map, Ok, Err, Result}
+use Rattle.std.specs.Prelude.{◌≡◌, ℕ, ◌≤◌, Bool, true, false, List, [], ◌∷◌, map, filter, Ok, Err, Result}
 use Rattle.rules.specs.declared.refusal.Refusal.{Refusal}
 use Rattle.rules.specs.declared.quote.Quote.{Quote}
 use Rattle.rules.specs.declared.verdict.Verdict.TheVariants.{Kept}
@@ -46,12 +46,8 @@ own k (At n c) = own_change k c
 own k (Close n) = false
 own k Turn = false
 
-abbrev pub keep : {A : Type 0} → (A → Bool) → List A → List A
-keep p [] = []
-keep p (x ∷ xs) = cond (p x) (x ∷ keep p xs) (keep p xs)
-
 abbrev pub own_calls : AccountKey → List Call → List Call
-own_calls k cs = keep (own k) cs
+own_calls k cs = filter (own k) cs
 
 -- g, of the second meter, against f, of the first: the same obliged time and days, no less qualified time, no fewer kept days.
 pub record CostsNothing (f g : Figures) : Type 0 where

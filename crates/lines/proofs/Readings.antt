@@ -1,13 +1,12 @@
 -- Lemmas on words and the numbers that they write.
 use Rattle.std.proofs.Common.{◌≡◌, ℕ, suc, ◌^◌, ◌<◌, Bool, true, false, cond, ◌&&◌, eqb, ltb, List, [], ◌∷◌, ◌++◌, length, get_or, Some, None, Ok, Err, MatchBool, Result, sym, refl, ap, ◌∙◌, ⊎_elim, arith, lit<, Bor, rules}
-use Rattle.std.proofs.lemmas.Slice.Eq.{bytes_eq-Decides}
 use Rattle.std.proofs.lemmas.Str.Pattern.{IsSplitOnceResult, split_parts, starts_char}
 use Rattle.std.proofs.lemmas.Bool.{both_ways, and_from, and_parts, lt-ltb, ltb-true, ne_eqb, cases_Bool, cond-true, cond-false}
 use Rattle.std.proofs.lemmas.Str.Parse.{IsNumeralModel, numerals_by_fold}
 use Rattle.std.specs.Str.Pattern.{FindsCharPrefix}
 use Rattle.std.specs.Result.{OkIff, result_ok}
 use Rattle.std.specs.Str.Iter.{LacksByte}
-use Rattle.std.specs.Str.{IsCharBoundary, all_ascii_digits, bytes_eq}
+use Rattle.std.specs.Str.{IsCharBoundary, all_ascii_digits}
 use Rattle.lines.specs.Numbers.{value_after, number_of}
 use Rattle.lines.specs.Words.{onto, words}
 
@@ -38,10 +37,6 @@ last_word bs h = one_word bs (split_parts 32 bs None h (lit< tt))
 -- What `starts_with` says of the ASCII character b where it is false.
 pub not_first : (b : ℕ) → b < 128 → 0 < b → (bs : List ℕ) (r : Bool) → MatchBool r ((n : ℕ) × FindsCharPrefix b bs (Some n) × IsCharBoundary bs n) (FindsCharPrefix b bs None) → r ≡ false → get_or bs 0 0 ≡ b → ⊥
 not_first b ascii some bs r says left is = both_ways r left ((starts_char b bs r says ascii some).1 is)
-
--- A word that is not the one compared with.
-pub not_same : (w k : List ℕ) → (w ≡ k → ⊥) → bytes_eq w k ≡ false
-not_same w k differs = ⊎_elim (λ t. absurd (differs ((bytes_eq-Decides w k).0 t))) (λ f. f) (cases_Bool (bytes_eq w k))
 
 -- What `parse` reads of a word with no sign.
 pub decimal : IsNumeralModel (λ ds. all_ascii_digits ds ≡ true) (value_after 0)

@@ -1,4 +1,5 @@
 pub mod Ends
 pub mod Numbers
 pub mod Words
-pub mod Answered
+pub mod Unreadables
+pub mod Asked

@@ -1,5 +1,6 @@
 -- The words of a line, and which lines ask nothing.
-use Rattle.std.specs.Prelude.{ℕ, Bool, cond, ◌||◌, List, [], ◌∷◌, length, Some, None, Option, ◌==◌, slice_index}
+use Rattle.std.specs.Prelude.{◌≡◌, drop, ℕ, Bool, cond, ◌||◌, List, [], ◌∷◌, length, Some, None, Option, ◌==◌, slice_index}
+use Rattle.std.specs.Option.{option_map}
 use Rattle.std.specs.Borrow.{Bor}
 use Rattle.lines.specs.declared.words.Words.{Words}
 
@@ -27,3 +28,7 @@ of_rest (Some rest) = words rest.now
 
 abbrev pub words_left : Words → List (List ℕ)
 words_left w = of_rest w.rest
+
+-- What `next` gives: the first of the words that are left, which then are those behind it.
+abbrev pub NextWord : Words → Option (Bor (List ℕ)) → Words → Type 0
+NextWord w word v = (option_map (λ x. x.now) word ≡ first (words_left w)) × (words_left v ≡ drop 1 (words_left w))

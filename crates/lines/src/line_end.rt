@@ -6,8 +6,5 @@ ghost use Rattle.lines.specs.Ends.{without_return};
 pub fn strip_return(line: &str) -> &str
     ensures { result.now ≡ without_return line.now }
 {
-    match line.strip_suffix('\r') {
-        Some(front) => front,
-        None => line,
-    }
+    line.strip_suffix('\r').unwrap_or(line)
 }

@@ -1,11 +1,16 @@
 // The words of a line, parted by single spaces, one after the other.
-ghost use Rattle.std.specs.Prelude.{◌≡◌, true, false, ◌∷◌, drop, MatchOption};
-ghost use Rattle.std.specs.Option.{option_map};
+ghost use Rattle.std.specs.Prelude.{◌≡◌, true, false, ◌∷◌, MatchOption, length};
+ghost use Rattle.std.specs.Option.{ok_or};
+ghost use Rattle.std.specs.Iterator.{at_most};
 ghost use Rattle.lines.specs.Numbers.{numbers_of, exactly};
-ghost use Rattle.lines.specs.Words.{silent, words, first, of_rest, words_left};
+ghost use Rattle.lines.specs.Unreadables.{unreadable};
+ghost use Rattle.lines.specs.Words.{silent, words, first, of_rest, words_left, NextWord};
 
 use crate::number::read_number;
+use crate::unreadable::Unreadable;
 
+// Cut by `split_once`, and not by `split`, whose iterator is not Copy as words are; and so contracts read what is left by a
+// function (`words_left`): a model would need its inverse.
 #[derive(Clone, Copy)]
 pub struct Words<'a> {
     rest: Option<&'a str>,
@@ -18,6 +23,20 @@ fn cut<'a>(text: &'a str) -> (&'a str, Option<&'a str>)
     match text.split_once(' ') {
         Some((word, rest)) => (word, Some(rest)),
         None => (text, None),
+    }
+}
+
+impl<'a> Iterator for Words<'a> {
+    type Item = &'a str;
+
+    ghost next_gives = { NextWord };
+
+    ghost remaining = { λ w. at_most (length (words_left w)) };
+
+    fn next(&mut self) -> Option<&'a str> {
+        let (word, rest) = cut(self.rest?);
+        self.rest = rest;
+        Some(word)
     }
 }
 
@@ -35,31 +54,21 @@ impl<'a> Words<'a> {
         if line.is_empty() || line.starts_with('#') {
             return None;
         }
-        let (first, rest) = cut(line);
-        Some((first, Words { rest }))
-    }
-
-    // The next word, or nothing where none is left.
-    pub fn next_word(&mut self) -> Option<&'a str>
-        ensures value { option_map (λ x. x.now) result ≡ first (words_left self.old) }
-        ensures after { words_left self.new ≡ drop 1 (words_left self.old) }
-    {
-        let (word, rest) = cut(self.rest?);
-        self.rest = rest;
-        Some(word)
+        let mut words = Words::of(line);
+        Some((words.next()?, words))
     }
 
     // The numbers of the words that are left, where there are just N and each writes one.
-    pub fn numbers<const N: usize>(mut self) -> Option<[u32; N]>
-        ensures { result ≡ exactly N (numbers_of (words_left self.entry)) }
+    pub fn numbers<const N: usize>(mut self) -> Result<[u32; N], Unreadable>
+        ensures { result ≡ ok_or (exactly N (numbers_of (words_left self.entry))) unreadable }
     {
         let mut numbers = [0; N];
-        for i in 0..N {
-            numbers[i] = read_number(self.next_word()?)?;
+        for number in &mut numbers {
+            *number = self.next().and_then(read_number).ok_or(Unreadable)?;
         }
-        if self.next_word().is_some() {
-            return None;
+        match self.next() {
+            None => Ok(numbers),
+            Some(_) => Err(Unreadable),
         }
-        Some(numbers)
     }
 }

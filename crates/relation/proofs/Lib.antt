@@ -1,1 +1,2 @@
 pub mod Rearranging
+pub mod Same

@@ -1,5 +1,5 @@
 -- In which relation two lists of calls are.
-use Rattle.std.specs.Prelude.{◌≡◌, ℕ, Bool, List}
+use Rattle.std.specs.Prelude.{◌≡◌, ℕ, Bool, List, Some, None, Option}
 use Rattle.rules.specs.declared.quote.Quote.{Quote}
 use Rattle.calls.specs.declared.call.Call.{Call}
 use Rattle.laws.specs.Exchange.{Exchangeable, MayAll, exchange_all}
@@ -11,9 +11,9 @@ use Rattle.relation.specs.declared.related.Relation.TheVariants as relation
 abbrev pub Rearranged : List Call → List Call → Type 0
 Rearranged cs ds = (ns : List ℕ) × MayAll Exchangeable ns cs × (ds ≡ exchange_all ns cs)
 
--- What each answer says of the first list, cs, and the second, ds.
-abbrev pub Related : (Quote → Quote → Bool) → List Call → List Call → Relation → Type 0
-Related better cs ds relation.Same = cs ≡ ds
-Related better cs ds relation.Bettered = Each (Bettered better) cs ds
-Related better cs ds relation.Reordered = Rearranged cs ds
-Related better cs ds relation.Unrelated = Unit {0}
+-- What each answer says of the first list, cs, and the second, ds. Where none is told there may be one.
+abbrev pub Related : (Quote → Quote → Bool) → List Call → List Call → Option Relation → Type 0
+Related better cs ds (Some relation.Same) = cs ≡ ds
+Related better cs ds (Some relation.Bettered) = Each (Bettered better) cs ds
+Related better cs ds (Some relation.Reordered) = Rearranged cs ds
+Related better cs ds None = Unit {0}

@@ -6,18 +6,18 @@ use crate::at_once::changes_at_once;
 use calls::call::Call;
 use calls::change::Change;
 
-// Whether two changes set the same thing.
+// Whether two changes set the same thing. Arm by arm: an enum of things with a derived equality would be longer than these.
 fn same_thing(a: &Change, b: &Change) -> bool
     ensures { Decides result (thing a.now ≡ thing b.now) }
 {
     match (*a, *b) {
         (Change::Phase { instrument: i, .. }, Change::Phase { instrument: j, .. }) => i == j,
         (Change::Fast { .. }, Change::Fast { .. }) => true,
-        (Change::Exempt { key: k, .. }, Change::Exempt { key: l, .. }) => k.is_same(&l),
+        (Change::Exempt { key: k, .. }, Change::Exempt { key: l, .. }) => k == l,
         (
             Change::Quote { key: k, .. } | Change::Withdraw { key: k },
             Change::Quote { key: l, .. } | Change::Withdraw { key: l },
-        ) => k.is_same(&l),
+        ) => k == l,
         _ => false,
     }
 }
@@ -26,8 +26,5 @@ fn same_thing(a: &Change, b: &Change) -> bool
 pub fn may_exchange(a: &Call, b: &Call) -> bool
     ensures { result ≡ true → Exchangeable a.now b.now }
 {
-    match changes_at_once(a, b) {
-        Some((c, d)) => !same_thing(&c, &d),
-        None => false,
-    }
+    changes_at_once(a, b).is_some_and(|(c, d)| !same_thing(&c, &d))
 }

@@ -9,4 +9,3 @@ mod exchange;
 mod related;
 pub mod relation;
 mod reordered;
-mod same;

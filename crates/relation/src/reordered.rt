@@ -3,33 +3,30 @@ ghost use Rattle.std.specs.Prelude.{◌≡◌, ◌<◌, ◌≤◌, true, length,
 ghost use Rattle.relation.specs.Related.{Rearranged};
 
 use crate::exchange::may_exchange;
-use crate::same::{same_call, same_calls};
 use calls::call::Call;
 use std::alloc::{AllocError, Global};
 
-// The next place from `start` on where the call stands.
+// The next place from `start` on where the call stands. By places: of what `skip(start).position(..)` finds the proof did not
+// close.
 fn place_of(call: &Call, calls: &[Call], start: usize) -> Option<usize>
     ensures { IfSome result (λ k. (start ≤ k) × (k < length calls.now) × (slice_index_or calls.now k call.now ≡ call.now)) }
 {
-    for k in start..calls.len() {
-        if same_call(&calls[k], call) {
-            return Some(k);
-        }
-    }
-    None
+    (start..calls.len()).find(|k| calls[*k] == *call)
 }
 
 // Brings the call at one place forward to another, past calls that it may change places with. Whether it came there.
 fn bring_forward(calls: &mut [Call], from: usize, to: usize) -> bool
-    requires { from < length calls.old }
+    requires { (to ≤ from) × (from < length calls.old) }
     ensures { Rearranged calls.old calls.new }
 {
-    for k in (to..from).rev() {
-        if !may_exchange(&calls[k], &calls[k + 1]) {
-            return false;
-        }
-        calls.swap(k, k + 1);
+    let moving = calls[from];
+    if !calls[to..from]
+        .iter()
+        .all(|earlier| may_exchange(earlier, &moving))
+    {
+        return false;
     }
+    calls[to..=from].rotate_right(1);
     true
 }
 
@@ -38,13 +35,13 @@ pub fn is_reordered(heap: Global, first: &[Call], second: &[Call]) -> Result<boo
     ensures { IfOk result (λ told. (told ≡ true → Rearranged first.now second.now)) }
 {
     let mut calls = Vec::from_slice(heap, first)?;
-    for i in 0..second.len() {
-        let Some(place) = place_of(&second[i], &calls, i) else {
+    for (place, call) in second.iter().enumerate() {
+        let Some(from) = place_of(call, &calls, place) else {
             return Ok(false);
         };
-        if !bring_forward(&mut calls, place, i) {
+        if !bring_forward(&mut calls, from, place) {
             return Ok(false);
         }
     }
-    Ok(same_calls(&calls, second))
+    Ok(calls.as_slice() == second)
 }

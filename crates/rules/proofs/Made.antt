@@ -1,9 +1,10 @@
 -- A quote is the quote of its own sides, and terms are the terms of their own numbers.
-use Rattle.std.proofs.Common.{◌≡◌, ℕ, ◌≤◌, Bool, true, false, Some, Ok, Option, refl, ap, ◌∙◌, arith}
+use Rattle.std.proofs.Common.{◌≡◌, ℕ, ◌≤◌, Bool, true, false, Some, Ok, Option, ok_or, refl, ap, ◌∙◌, arith}
 use native.Mathlib.Bridge.{le_prop}
 use Rattle.std.proofs.lemmas.Bool.{both_ways, and_from, le-leb, lt-ltb}
 use Rattle.std.proofs.lemmas.Bool.Decides.{nat_tests}
 use Rattle.rules.specs.declared.quote.Quote.{Quote}
+use Rattle.rules.specs.declared.refusal.Refusal.TheVariants.{FieldOutOfRange}
 use Rattle.rules.specs.declared.terms.Terms.{Terms}
 use Rattle.rules.specs.declared.tier.Tier.{Tier}
 use Rattle.rules.specs.declared.tier.Tier.TheVariants.{Relative, Stagnating, Fixed}
@@ -53,7 +54,7 @@ tier_is Relative = refl
 tier_is Stagnating = refl
 tier_is Fixed = refl
 
-pub tier_numbered : (n : ℕ) (t : Tier) → Some t ≡ tier_of n → tier_number t ≡ n
+pub tier_numbered : (n : ℕ) (t : Tier) → Ok t ≡ ok_or (tier_of n) FieldOutOfRange → tier_number t ≡ n
 tier_numbered n t e = grind (arith, nat_tests)
 
 ranges_hold : (t : Terms) → in_range (conditions_of t) ≡ true

@@ -7,6 +7,7 @@ pub mod Spreads
 pub mod Vienna
 pub mod Zagreb
 pub mod Beta
+pub mod Verdicts
 pub mod Months
 pub mod Edges
 pub mod Better

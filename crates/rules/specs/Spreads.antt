@@ -1,4 +1,4 @@
--- What the markets' rules share on the prices of a quote: the test, and its reading in plain order.
+-- What the exchanges' rules share on the prices of a quote: the test, and its reading in plain order.
 use Rattle.std.specs.Prelude.{ℕ, ◌-◌, ◌*◌, ◌≤◌, Bool, ◌&&◌, nat_le}
 use Rattle.rules.specs.declared.quote.Quote.{Quote}
 

@@ -1,4 +1,4 @@
--- The number of each tier in files, and the tier of a number.
+-- The number of each tier in terms as they are given, and the tier of a number.
 use Rattle.std.specs.Prelude.{ℕ, cond, Some, None, Option, ◌==◌}
 use Rattle.rules.specs.declared.tier.Tier.{Tier}
 use Rattle.rules.specs.declared.tier.Tier.TheVariants.{Relative, Stagnating, Fixed}

@@ -1,6 +1,6 @@
-// The quoting rules: what a quote is, what an account's terms are, which quotes meet which terms under each market's rule,
+// The quoting rules: what a quote is, what an account's terms are, which quotes meet which terms under each exchange's rule,
 // and what verdict a month's figures get. One type to a module; `quote_rule` and `month_rule` hold the two traits with
-// their laws, and `statements` what is proved of the definitions alone, the edges among it.
+// their laws, `rulebook` one rule of each, and `statements` what is proved of the definitions alone, the edges among it.
 #![tactic(auto)]
 
 pub mod beta;
@@ -13,6 +13,7 @@ pub mod quote_rule;
 pub mod ranges;
 pub mod ratio;
 pub mod refusal;
+pub mod rulebook;
 pub mod sides;
 pub mod statements;
 pub mod terms;

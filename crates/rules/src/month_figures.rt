@@ -1,5 +1,5 @@
 // An account's figures over a month: times in milliseconds, and days.
-#[derive(Clone, Copy)]
+#[derive(Clone, Copy, Default)]
 pub struct MonthFigures {
     pub obliged: u32,
     pub qualified: u32,

@@ -5,5 +5,5 @@ ghost use Rattle.rules.specs.Ranges.{within};
 pub fn within(low: u32, high: u32, n: u32) -> bool
     ensures { result ≡ within low high n }
 {
-    low <= n && n <= high
+    (low..=high).contains(&n)
 }

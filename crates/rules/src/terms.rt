@@ -5,7 +5,8 @@ use crate::tier::Tier;
 
 mod make;
 
-// Limit and threshold are basis points. What the minimum counts (pieces, or money) is the quote rule's to say.
+// A class stays a number from 1, the row of the exchange's tables: an enum of seven would be turned back into one. Limit and
+// threshold are basis points. What the minimum counts (pieces, or money) is the quote rule's to say.
 #[derive(Clone, Copy)]
 pub struct Terms {
     class: u8,

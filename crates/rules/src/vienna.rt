@@ -10,7 +10,8 @@ use crate::quote_rule::QuoteRule;
 use crate::terms::Terms;
 use crate::tier::Tier;
 
-// The widest spread by class, from 1: in basis points of the bid, and in ten-thousandths of a euro.
+// The widest spread by class, from 1: in basis points of the bid, and in ten-thousandths of a euro. One array to a tier: each
+// tier reads its own alone, and seven structs of three numbers take 35 lines and are no plainer.
 const RELATIVE: [u16; 7] = [75, 100, 150, 200, 300, 400, 500];
 
 const STAGNATING: [u16; 7] = [800, 1000, 1000, 1000, 1500, 2000, 2500];

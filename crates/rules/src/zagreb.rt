@@ -1,6 +1,6 @@
 // Zagreb: the spread is limited against the bid, and the minimum is the worth of each side.
-ghost use Rattle.std.specs.Prelude.{◌≡◌, Decides};
-ghost use Rattle.rules.specs.Zagreb.{ask_worth, zagreb_meets, zagreb_better, MeetsZagreb, BetterZagreb};
+ghost use Rattle.std.specs.Prelude.{◌≡◌, ◌*◌, Decides};
+ghost use Rattle.rules.specs.Zagreb.{zagreb_meets, zagreb_better, MeetsZagreb, BetterZagreb};
 ghost use Rattle.std.proofs.Common.{mul-le-mul, le_trans, rules};
 ghost use Rattle.rules.specs.Plainly.{zagreb_reads, zagreb_better_reads};
 ghost use Rattle.rules.specs.SpreadsLemmas.{keeps_within};
@@ -12,10 +12,10 @@ use crate::terms::Terms;
 #[derive(Clone, Copy)]
 pub struct Zagreb;
 
-fn ask_worth(quote: &Quote) -> u64
-    ensures { result ≡ ask_worth quote.now }
+fn worth(price: u32, size: u32) -> u64
+    ensures { result ≡ price * size }
 {
-    quote.ask() as u64 * quote.ask_size() as u64
+    price as u64 * size as u64
 }
 
 impl QuoteRule for Zagreb {
@@ -36,8 +36,8 @@ impl QuoteRule for Zagreb {
     {
         let minimum = terms.minimum() as u64;
         quote.is_within(terms.limit())
-            && minimum <= quote.bid() as u64 * quote.bid_size() as u64
-            && minimum <= quote.ask() as u64 * quote.ask_size() as u64
+            && minimum <= worth(quote.bid(), quote.bid_size())
+            && minimum <= worth(quote.ask(), quote.ask_size())
     }
 
     fn is_better(&self, quote: &Quote, than: &Quote) -> bool
@@ -46,6 +46,6 @@ impl QuoteRule for Zagreb {
     {
         quote.is_inside(than)
             && than.bid_size() <= quote.bid_size()
-            && ask_worth(than) <= ask_worth(quote)
+            && worth(than.ask(), than.ask_size()) <= worth(quote.ask(), quote.ask_size())
     }
 }

@@ -1,5 +1,6 @@
 -- What a line asks of a meter.
-use Rattle.std.specs.Prelude.{ℕ, cond, List, [], ◌∷◌, Some, None, Option, slice_index}
+use Rattle.std.specs.Prelude.{ℕ, List, [], ◌∷◌, Some, None, Err, Option, Result, slice_index}
+use Rattle.std.specs.Option.{option_map, ok_or}
 use Rattle.rules.specs.declared.conditions.Conditions.{Conditions}
 use Rattle.rules.specs.declared.sides.Sides.{Sides}
 use Rattle.calls.specs.declared.account_key.AccountKey.{AccountKey}
@@ -7,7 +8,9 @@ use Rattle.calls.specs.declared.date.Date.{Date}
 use Rattle.calls.specs.declared.change.Change.TheVariants as change
 use Rattle.calls.specs.declared.call.Call.TheVariants as call
 use Rattle.lines.specs.Numbers.{numbers_of, exactly}
-use Rattle.lines.specs.Words.{silent, words}
+use Rattle.lines.specs.Asked.{asked_of}
+use Rattle.lines.specs.Unreadables.{unreadable}
+use Rattle.lines.specs.declared.unreadable.Unreadable.{Unreadable}
 use Rattle.script.specs.declared.command.Command.{Command}
 use Rattle.script.specs.declared.command.Command.TheVariants as command
 use Rattle.script.specs.declared.verb.Verb.{Verb}
@@ -63,23 +66,18 @@ asks Turn ns = command.Call call.Turn
 asks Figures ns = command.Figures (key ns)
 asks Statement ns = command.Statement (key ns)
 
-abbrev pub built : Verb → Option (List ℕ) → Command
-built v None = command.Unreadable
-built v (Some ns) = asks v ns
+-- Unreadable where there are not just as many numbers as the verb takes.
+abbrev pub by_verb : Verb → List (List ℕ) → Result Command Unreadable
+by_verb v rest = ok_or (option_map (asks v) (exactly (arity v) (numbers_of rest))) unreadable
 
-abbrev pub by_verb : Verb → List (List ℕ) → Command
-by_verb v rest = built v (exactly (arity v) (numbers_of rest))
-
-abbrev pub if_verb : Option Verb → List (List ℕ) → Command
-if_verb None rest = command.Unreadable
+abbrev pub if_verb : Option Verb → List (List ℕ) → Result Command Unreadable
+if_verb None rest = Err unreadable
 if_verb (Some v) rest = by_verb v rest
 
-abbrev pub asked : List ℕ → List (List ℕ) → Command
-asked first rest = if_verb (verb_named first) rest
+-- By the first word and those behind it.
+abbrev pub asked_by : List (List ℕ) → Result Command Unreadable
+asked_by [] = Err unreadable
+asked_by (first ∷ rest) = if_verb (verb_named first) rest
 
-abbrev pub asked_by : List (List ℕ) → Command
-asked_by [] = command.Unreadable
-asked_by (first ∷ rest) = asked first rest
-
-abbrev pub command_of : List ℕ → Command
-command_of bs = cond (silent bs) command.Silent (asked_by (words bs))
+abbrev pub command_of : List ℕ → Result (Option Command) Unreadable
+command_of bs = asked_of asked_by bs

@@ -1,3 +1,4 @@
 pub mod Verbs
 pub mod Commands
 pub mod Pairs
+pub mod Untakens

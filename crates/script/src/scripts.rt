@@ -1,89 +1,94 @@
 // Two scripts, one behind the other, parted by a line `--`.
-ghost use Rattle.std.specs.Prelude.{◌≡◌, false, [], MatchResult};
-ghost use Rattle.script.specs.Pairs.{pair_of, parts, with_call, with_command, taken, is_readable, readable};
+ghost use Rattle.std.specs.Prelude.{◌≡◌, ◌↔◌, [], None, Ok, Err, IfOk, OnErr, IsErrOf, MatchResult, is_some, unwrap_or, vec_items, option_map};
+ghost use Rattle.lines.specs.Unreadables.{unreadable};
+ghost use Rattle.script.specs.declared.untaken.Untaken.TheVariants.{Unreadable, OutOfMemory};
+ghost use Rattle.script.specs.Pairs.{Pair, parts, with_call, taken};
 
 use crate::command::Command;
+use crate::untaken::Untaken;
 use calls::call::Call;
+use lines::asked::Asked;
 use std::alloc::{AllocError, Global};
+use std::marker::Model;
 
+// The second is there from the line that parts them on.
 #[derive(Drop)]
 pub struct Scripts {
     first: Vec<Call>,
-    second: Vec<Call>,
-    parted: bool,
+    second: Option<Vec<Call>>,
+}
+
+// Contracts speak of the calls.
+impl Model for Scripts {
+    ghost Value = { Pair };
+
+    ghost view = { λ s. record { first = vec_items s.first; second = option_map vec_items s.second } };
 }
 
 impl Scripts {
     pub fn new(heap: Global) -> Scripts
-        ensures { pair_of result ≡ record { first = []; second = []; parted = false } }
+        ensures { result ≡ record { first = []; second = None } }
     {
         Scripts {
             first: Vec::new(heap),
-            second: Vec::new(heap),
-            parted: false,
+            second: None,
         }
     }
 
     pub fn first(&self) -> &[Call]
-        ensures { result.now ≡ (pair_of self.now).first }
+        ensures { result.now ≡ self.now.first }
     {
         &self.first
     }
 
+    // The calls behind the line `--`: none before it was read.
     pub fn second(&self) -> &[Call]
-        ensures { result.now ≡ (pair_of self.now).second }
+        ensures { result.now ≡ unwrap_or self.now.second [] }
     {
-        &self.second
+        match &self.second {
+            Some(second) => second,
+            None => &[],
+        }
     }
 
     // Whether the line `--` was read.
     pub fn is_parted(&self) -> bool
-        ensures { result ≡ (pair_of self.now).parted }
+        ensures { result ≡ is_some self.now.second }
     {
-        self.parted
+        self.second.is_some()
     }
 
     // One call more of the script that is being read.
     fn add(&mut self, call: Call) -> Result<(), AllocError>
-        ensures { MatchResult result (λ _. pair_of self.new ≡ with_call call (pair_of self.old)) (λ _. pair_of self.new ≡ pair_of self.old) }
+        ensures { MatchResult result (λ _. self.new ≡ with_call call self.old) (λ _. self.new ≡ self.old) }
     {
-        if self.parted {
-            self.second.push(call)?;
-        } else {
-            self.first.push(call)?;
+        match &mut self.second {
+            Some(second) => second.push(call)?,
+            None => self.first.push(call)?,
         }
         Ok(())
     }
 
     // Whether the line parts the scripts. A second such line does not.
     fn parts(&self, line: &str) -> bool
-        ensures { result ≡ parts line.now (pair_of self.now) }
+        ensures { result ≡ parts line.now self.now }
     {
-        !self.parted && line == "--"
+        !self.is_parted() && line == "--"
     }
 
-    // What a command adds; false where it could not be read. A question changes nothing, and is passed over.
-    fn take_command(&mut self, command: &Command) -> Result<bool, AllocError>
-        ensures { MatchResult result (λ b. (b ≡ is_readable command.now) × (pair_of self.new ≡ with_command command.now (pair_of self.old))) (λ _. pair_of self.new ≡ pair_of self.old) }
-    {
-        match *command {
-            Command::Call(call) => {
-                self.add(call)?;
-                Ok(true)
-            }
-            Command::Unreadable => Ok(false),
-            Command::Silent | Command::Figures(_) | Command::Statement(_) => Ok(true),
-        }
-    }
-
-    // One line more; false where it cannot be read. For want of memory the line is not taken.
-    pub fn take(&mut self, line: &str) -> Result<bool, AllocError>
-        ensures { MatchResult result (λ b. (b ≡ readable line.now (pair_of self.old)) × (pair_of self.new ≡ taken line.now (pair_of self.old))) (λ _. pair_of self.new ≡ pair_of self.old) }
+    // One line more. A question changes nothing, and is passed over. A line that is not taken leaves the scripts as they were.
+    pub fn take(&mut self, line: &str) -> Result<(), Untaken>
+        ensures ok { IfOk result (λ _. taken line.now self.old ≡ Ok self.new) }
+        ensures unreadable { IsErrOf result Unreadable ↔ (taken line.now self.old ≡ Err unreadable) }
+        ensures err { OnErr result (self.new ≡ self.old) }
     {
         if self.parts(line) {
-            self.parted = true;
-            return Ok(true);
+            self.second = Some(Vec::new(*self.first.allocator()));
+            return Ok(());
         }
-        self.take_command(&Command::read(line))
+        if let Some(Command::Call(call)) = Command::read(line)? {
+            self.add(call)?;
+        }
+        Ok(())
     }
 }

@@ -1,8 +1,13 @@
 // The first word of a line: which call it is.
 ghost use Rattle.std.specs.Prelude.{◌≡◌};
+ghost use Rattle.std.specs.Option.{ok_or};
+ghost use Rattle.lines.specs.Unreadables.{unreadable};
 ghost use Rattle.script.specs.Verbs.{verb_named};
 
-#[derive(Clone, Copy)]
+use lines::unreadable::Unreadable;
+use std::str::FromStr;
+
+#[derive(Clone, Copy, PartialEq, Eq, Debug)]
 pub enum Verb {
     Enrol,
     Strike,
@@ -18,24 +23,26 @@ pub enum Verb {
     Statement,
 }
 
-impl Verb {
-    pub fn named(word: &str) -> Option<Verb>
-        ensures { result ≡ verb_named word.now }
-    {
+impl FromStr for Verb {
+    type Err = Unreadable;
+
+    ghost from_str_gives = { λ word r. r ≡ ok_or (verb_named word) unreadable };
+
+    fn from_str(word: &str) -> Result<Self, Unreadable> {
         match word {
-            "enrol" => Some(Verb::Enrol),
-            "strike" => Some(Verb::Strike),
-            "open" => Some(Verb::Open),
-            "phase" => Some(Verb::Phase),
-            "fast" => Some(Verb::Fast),
-            "exempt" => Some(Verb::Exempt),
-            "quote" => Some(Verb::Quote),
-            "withdraw" => Some(Verb::Withdraw),
-            "close" => Some(Verb::Close),
-            "turn" => Some(Verb::Turn),
-            "figures" => Some(Verb::Figures),
-            "statement" => Some(Verb::Statement),
-            _ => None,
+            "enrol" => Ok(Verb::Enrol),
+            "strike" => Ok(Verb::Strike),
+            "open" => Ok(Verb::Open),
+            "phase" => Ok(Verb::Phase),
+            "fast" => Ok(Verb::Fast),
+            "exempt" => Ok(Verb::Exempt),
+            "quote" => Ok(Verb::Quote),
+            "withdraw" => Ok(Verb::Withdraw),
+            "close" => Ok(Verb::Close),
+            "turn" => Ok(Verb::Turn),
+            "figures" => Ok(Verb::Figures),
+            "statement" => Ok(Verb::Statement),
+            _ => Err(Unreadable),
         }
     }
 }

@@ -23,11 +23,10 @@ impl Table {
         ensures { result ≡ change_refusal (enrolled_in self.now) change.now }
     {
         match *change {
-            Change::Phase { .. } => Ok(()),
-            Change::Fast { .. } => Ok(()),
-            Change::Exempt { key, .. } => self.check_enrolled(&key),
-            Change::Quote { key, .. } => self.check_enrolled(&key),
-            Change::Withdraw { key } => self.check_enrolled(&key),
+            Change::Phase { .. } | Change::Fast { .. } => Ok(()),
+            Change::Exempt { key, .. } | Change::Quote { key, .. } | Change::Withdraw { key } => {
+                self.check_enrolled(&key)
+            }
         }
     }
 
@@ -49,10 +48,8 @@ impl Table {
         match *call {
             Call::Enrol { key, .. } => self.check_room(&key),
             Call::Strike { key } => self.check_enrolled(&key),
-            Call::Open { .. } => Ok(()),
             Call::At { change, .. } => self.check_change(&change),
-            Call::Close { .. } => Ok(()),
-            Call::Turn => Ok(()),
+            Call::Open { .. } | Call::Close { .. } | Call::Turn => Ok(()),
         }
     }
 }

@@ -1,8 +1,8 @@
 // Making the table, finding an account in it, adding and removing one.
-ghost use Rattle.std.specs.Prelude.{◌≡◌, ◌<◌, [], ◌∷◌, ◌++◌, length, IfOk};
+ghost use Rattle.std.specs.Prelude.{◌≡◌, ◌<◌, [], ◌∷◌, ◌++◌, length, position, IfOk};
 ghost use Rattle.accounts.specs.Accounts.{is, newly_enrolled, key_at};
 ghost use Rattle.accounts.specs.Refusals.{account_of, enrolled};
-ghost use Rattle.accounts.specs.Lists.{position, without};
+ghost use Rattle.accounts.specs.Lists.{without};
 ghost use Rattle.accounts.specs.Views.{enrolled_in};
 
 use crate::account::Account;
@@ -23,22 +23,17 @@ impl Table {
     fn position(&self, key: &AccountKey) -> Option<usize>
         ensures { result ≡ position (is key.now) (enrolled_in self.now) }
     {
-        for (i, account) in self.accounts.iter().enumerate() {
-            if account.is(key) {
-                return Some(i);
-            }
-        }
-        None
+        self.accounts.iter().position(|account| account.is(key))
     }
 
     // The account that the key names.
     pub fn account(&self, key: &AccountKey) -> Option<Account>
         ensures { result ≡ account_of key.now (enrolled_in self.now) }
     {
-        match self.position(key) {
-            Some(i) => Some(self.accounts[i]),
-            None => None,
-        }
+        self.accounts
+            .iter()
+            .find(|account| account.is(key))
+            .copied()
     }
 
     pub fn is_enrolled(&self, key: &AccountKey) -> bool
@@ -51,10 +46,7 @@ impl Table {
     pub fn key_at(&self, place: usize) -> Option<AccountKey>
         ensures { result ≡ key_at (enrolled_in self.now) place }
     {
-        if place < self.accounts.len() {
-            return Some(self.accounts[place].key());
-        }
-        None
+        self.accounts.get(place).map(|account| account.key())
     }
 
     // One account more, behind the others.
@@ -66,6 +58,7 @@ impl Table {
     }
 
     // The account goes; those behind it move up.
+    #[tactic(auto, using(crate::proofs::Positions::without_at, crate::proofs::Positions::without_none))]
     pub fn strike(&mut self, key: &AccountKey)
         ensures { enrolled_in self.new ≡ without (is key.now) (enrolled_in self.old) }
     {

@@ -40,12 +40,10 @@ impl Book {
         ensures { result ≡ day_refusal (view self.now).frame call.now }
     {
         match *call {
-            Call::Enrol { .. } => self.check_between(),
-            Call::Strike { .. } => self.check_between(),
-            Call::Open { .. } => self.check_between(),
-            Call::At { stamp, .. } => self.check_within(stamp),
-            Call::Close { stamp } => self.check_within(stamp),
-            Call::Turn => self.check_between(),
+            Call::Enrol { .. } | Call::Strike { .. } | Call::Open { .. } | Call::Turn => {
+                self.check_between()
+            }
+            Call::At { stamp, .. } | Call::Close { stamp } => self.check_within(stamp),
         }
     }
 
@@ -53,20 +51,14 @@ impl Book {
     fn not_after(&self, date: &Date) -> bool
         ensures { result ≡ not_after self.now.last date.now }
     {
-        match &self.last {
-            Some(last) => !date.is_later(last),
-            None => false,
-        }
+        self.last.is_some_and(|last| *date <= last)
     }
 
     // Whether the date is in another month or year than the last opened.
     fn other_month(&self, date: &Date) -> bool
         ensures { result ≡ other_month self.now.last date.now }
     {
-        match &self.last {
-            Some(last) => !date.is_same_month(last),
-            None => false,
-        }
+        self.last.is_some_and(|last| !date.is_same_month(&last))
     }
 
     fn check_date(&self, date: &Date) -> Result<(), Refusal>
@@ -87,26 +79,20 @@ impl Book {
     fn check_turned(&self, key: &AccountKey) -> Result<(), Refusal>
         ensures { result ≡ when (unturned (account_of key.now (enrolled_in self.now.table))) DaysUnturned accepted }
     {
-        match self.table.account(key) {
-            Some(account) => if account.figures().month.days > 0 {
-                Err(Refusal::DaysUnturned)
-            } else {
-                Ok(())
-            },
-            None => Ok(()),
+        let account = self.table.account(key);
+        if account.is_some_and(|account| account.figures().month.days > 0) {
+            return Err(Refusal::DaysUnturned);
         }
+        Ok(())
     }
 
     fn check_month(&self, call: &Call) -> Result<(), Refusal>
         ensures { result ≡ month_refusal (view self.now).frame (view self.now).accounts call.now }
     {
         match *call {
-            Call::Enrol { .. } => Ok(()),
             Call::Strike { key } => self.check_turned(&key),
             Call::Open { date } => self.check_date(&date),
-            Call::At { .. } => Ok(()),
-            Call::Close { .. } => Ok(()),
-            Call::Turn => Ok(()),
+            Call::Enrol { .. } | Call::At { .. } | Call::Close { .. } | Call::Turn => Ok(()),
         }
     }
 

@@ -1,4 +1,5 @@
-// What an accepted call leaves, one setter to each kind of call; and one call as a whole.
+// What an accepted call leaves, one setter to each kind of call; and one call as a whole. That the call is accepted is a clause
+// of each, since it is a fact of the call and the book together, which no type of either holds.
 ghost use Rattle.std.specs.Prelude.{◌≡◌, true, is_err};
 ghost use Rattle.calls.specs.declared.call.Call.TheVariants.{Enrol, Strike, Open, At, Close, Turn};
 ghost use Rattle.calls.specs.Answers.{accepted};
@@ -9,6 +10,7 @@ ghost use Rattle.book.specs.View.{view};
 
 use crate::book::Book;
 use accounts::market::Market;
+use accounts::span::Span;
 use calls::account_key::AccountKey;
 use calls::call::Call;
 use calls::change::Change;
@@ -23,7 +25,7 @@ impl Book {
         requires { refusal (view self.old) (Enrol key conditions) ≡ accepted }
         ensures { (rule : Rule) → view self.new ≡ taken rule (view self.old) (Enrol key conditions) }
     {
-        if let Ok(terms) = Terms::new(conditions) {
+        if let Ok(terms) = Terms::try_from(conditions) {
             self.table.enrol(key, terms);
         }
     }
@@ -50,8 +52,8 @@ impl Book {
         requires { refusal (view self.old) (At stamp change.now) ≡ accepted }
         ensures { view self.new ≡ taken (Q.QuoteRule.meets rule.now) (view self.old) (At stamp change.now) }
     {
-        let span = stamp - self.clock;
-        self.table.touch(rule, &self.market, span, change);
+        let span = Span::between(self.clock, stamp, rule, &self.market);
+        self.table.touch(&span, change);
         self.market.change(change);
         self.clock = stamp;
     }
@@ -60,8 +62,8 @@ impl Book {
         requires { refusal (view self.old) (Close stamp) ≡ accepted }
         ensures { view self.new ≡ taken (Q.QuoteRule.meets rule.now) (view self.old) (Close stamp) }
     {
-        let rest = stamp - self.clock;
-        self.table.end(rule, &self.market, rest);
+        let rest = Span::between(self.clock, stamp, rule, &self.market);
+        self.table.end(&rest);
         self.clock = stamp;
         self.closed += 1;
         self.day_open = false;

@@ -44,10 +44,8 @@ impl Book {
         if !key.in_range() {
             return Err(Refusal::FieldOutOfRange);
         }
-        match self.table.account(key) {
-            Some(account) => Ok(account.figures()),
-            None => Err(Refusal::NotEnrolled),
-        }
+        let account = self.table.account(key).ok_or(Refusal::NotEnrolled)?;
+        Ok(account.figures())
     }
 
     // An account's figures with the verdict on its month.
@@ -60,16 +58,12 @@ impl Book {
         if self.day_open {
             return Err(Refusal::DayOpen);
         }
-        match self.table.account(key) {
-            Some(account) => {
-                let figures = account.figures();
-                if figures.month.obliged == 0 {
-                    return Err(Refusal::NoObligedTime);
-                }
-                let verdict = rule.verdict(&figures.month, account.terms().threshold());
-                Ok(Statement { figures, verdict })
-            }
-            None => Err(Refusal::NotEnrolled),
+        let account = self.table.account(key).ok_or(Refusal::NotEnrolled)?;
+        let figures = account.figures();
+        if figures.month.obliged == 0 {
+            return Err(Refusal::NoObligedTime);
         }
+        let verdict = rule.verdict(&figures.month, account.terms().threshold());
+        Ok(Statement { figures, verdict })
     }
 }

@@ -29,8 +29,8 @@ impl<Q: QuoteRule + Drop, M: MonthRule + Drop> Meter<Q, M> {
 
     // The figures and the month rule's verdict.
     pub fn statement(&self, key: &AccountKey) -> Result<Statement, Refusal>
-        ensures { result ≡ statement (M.MonthRule.verdict self.now.month_rule) (view self.now.book) key.now }
+        ensures { result ≡ statement (M.MonthRule.verdict self.now.rulebook.month_rule) (view self.now.book) key.now }
     {
-        self.book.statement(&self.month_rule, key)
+        self.book.statement(&self.rulebook.month_rule, key)
     }
 }

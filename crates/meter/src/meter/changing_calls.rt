@@ -1,9 +1,8 @@
-// The ten calls that change a meter. Fields are taken as they come; one that is out of range is refused.
-ghost use Rattle.std.specs.Prelude.{◌≡◌, true, is_err};
+// The ten calls that change a meter. Phases and flags are taken as the numbers that come: one that is out of range is refused,
+// and a narrower type would ask more of every caller.
 ghost use Rattle.calls.specs.declared.call.Call.TheVariants.{Enrol, Strike, Open, At, Close, Turn};
 ghost use Rattle.calls.specs.declared.change.Change.TheVariants.{Phase, Fast, Exempt, Quote, Withdraw};
-ghost use Rattle.book.specs.View.{view};
-ghost use Rattle.meter.specs.Took.{Took};
+ghost use Rattle.meter.specs.Takes.{Takes};
 
 use crate::meter::Meter;
 use calls::account_key::AccountKey;
@@ -19,36 +18,28 @@ use rules::sides::Sides;
 impl<Q: QuoteRule + Drop, M: MonthRule + Drop> Meter<Q, M> {
     // Adds an account with all figures 0, behind the others.
     pub fn enrol(&mut self, key: AccountKey, conditions: Conditions) -> Result<(), Refusal>
-        ensures took { Took (Q.QuoteRule.meets self.old.quote_rule) (view self.old.book) (Enrol key conditions) result (view self.new.book) }
-        ensures rules { (self.new.quote_rule ≡ self.old.quote_rule) × (self.new.month_rule ≡ self.old.month_rule) }
-        ensures refused { is_err result ≡ true → self.new ≡ self.old }
+        ensures { Takes (Q.QuoteRule.meets self.old.rulebook.quote_rule) self.old (Enrol key conditions) result self.new }
     {
         self.apply(&Call::Enrol { key, conditions })
     }
 
     // Removes an account; those behind it move up, and the freed place serves the next one enrolled.
     pub fn strike(&mut self, key: AccountKey) -> Result<(), Refusal>
-        ensures took { Took (Q.QuoteRule.meets self.old.quote_rule) (view self.old.book) (Strike key) result (view self.new.book) }
-        ensures rules { (self.new.quote_rule ≡ self.old.quote_rule) × (self.new.month_rule ≡ self.old.month_rule) }
-        ensures refused { is_err result ≡ true → self.new ≡ self.old }
+        ensures { Takes (Q.QuoteRule.meets self.old.rulebook.quote_rule) self.old (Strike key) result self.new }
     {
         self.apply(&Call::Strike { key })
     }
 
     // Opens a day.
     pub fn open(&mut self, date: Date) -> Result<(), Refusal>
-        ensures took { Took (Q.QuoteRule.meets self.old.quote_rule) (view self.old.book) (Open date) result (view self.new.book) }
-        ensures rules { (self.new.quote_rule ≡ self.old.quote_rule) × (self.new.month_rule ≡ self.old.month_rule) }
-        ensures refused { is_err result ≡ true → self.new ≡ self.old }
+        ensures { Takes (Q.QuoteRule.meets self.old.rulebook.quote_rule) self.old (Open date) result self.new }
     {
         self.apply(&Call::Open { date })
     }
 
     // Sets one instrument's phase from the stamp on.
     pub fn phase(&mut self, instrument: u32, phase: u32, stamp: u32) -> Result<(), Refusal>
-        ensures took { Took (Q.QuoteRule.meets self.old.quote_rule) (view self.old.book) (At stamp (Phase instrument phase)) result (view self.new.book) }
-        ensures rules { (self.new.quote_rule ≡ self.old.quote_rule) × (self.new.month_rule ≡ self.old.month_rule) }
-        ensures refused { is_err result ≡ true → self.new ≡ self.old }
+        ensures { Takes (Q.QuoteRule.meets self.old.rulebook.quote_rule) self.old (At stamp (Phase instrument phase)) result self.new }
     {
         self.apply(&Call::At {
             stamp,
@@ -58,9 +49,7 @@ impl<Q: QuoteRule + Drop, M: MonthRule + Drop> Meter<Q, M> {
 
     // Sets the market's flag from the stamp on.
     pub fn fast(&mut self, flag: u32, stamp: u32) -> Result<(), Refusal>
-        ensures took { Took (Q.QuoteRule.meets self.old.quote_rule) (view self.old.book) (At stamp (Fast flag)) result (view self.new.book) }
-        ensures rules { (self.new.quote_rule ≡ self.old.quote_rule) × (self.new.month_rule ≡ self.old.month_rule) }
-        ensures refused { is_err result ≡ true → self.new ≡ self.old }
+        ensures { Takes (Q.QuoteRule.meets self.old.rulebook.quote_rule) self.old (At stamp (Fast flag)) result self.new }
     {
         self.apply(&Call::At {
             stamp,
@@ -70,9 +59,7 @@ impl<Q: QuoteRule + Drop, M: MonthRule + Drop> Meter<Q, M> {
 
     // Sets one account's exemption from the stamp on.
     pub fn exempt(&mut self, key: AccountKey, flag: u32, stamp: u32) -> Result<(), Refusal>
-        ensures took { Took (Q.QuoteRule.meets self.old.quote_rule) (view self.old.book) (At stamp (Exempt key flag)) result (view self.new.book) }
-        ensures rules { (self.new.quote_rule ≡ self.old.quote_rule) × (self.new.month_rule ≡ self.old.month_rule) }
-        ensures refused { is_err result ≡ true → self.new ≡ self.old }
+        ensures { Takes (Q.QuoteRule.meets self.old.rulebook.quote_rule) self.old (At stamp (Exempt key flag)) result self.new }
     {
         self.apply(&Call::At {
             stamp,
@@ -82,9 +69,7 @@ impl<Q: QuoteRule + Drop, M: MonthRule + Drop> Meter<Q, M> {
 
     // Replaces an account's standing quote from the stamp on.
     pub fn quote(&mut self, key: AccountKey, stamp: u32, sides: Sides) -> Result<(), Refusal>
-        ensures took { Took (Q.QuoteRule.meets self.old.quote_rule) (view self.old.book) (At stamp (Quote key sides)) result (view self.new.book) }
-        ensures rules { (self.new.quote_rule ≡ self.old.quote_rule) × (self.new.month_rule ≡ self.old.month_rule) }
-        ensures refused { is_err result ≡ true → self.new ≡ self.old }
+        ensures { Takes (Q.QuoteRule.meets self.old.rulebook.quote_rule) self.old (At stamp (Quote key sides)) result self.new }
     {
         self.apply(&Call::At {
             stamp,
@@ -94,9 +79,7 @@ impl<Q: QuoteRule + Drop, M: MonthRule + Drop> Meter<Q, M> {
 
     // Ends an account's standing quote at the stamp; accepted where none stands.
     pub fn withdraw(&mut self, key: AccountKey, stamp: u32) -> Result<(), Refusal>
-        ensures took { Took (Q.QuoteRule.meets self.old.quote_rule) (view self.old.book) (At stamp (Withdraw key)) result (view self.new.book) }
-        ensures rules { (self.new.quote_rule ≡ self.old.quote_rule) × (self.new.month_rule ≡ self.old.month_rule) }
-        ensures refused { is_err result ≡ true → self.new ≡ self.old }
+        ensures { Takes (Q.QuoteRule.meets self.old.rulebook.quote_rule) self.old (At stamp (Withdraw key)) result self.new }
     {
         self.apply(&Call::At {
             stamp,
@@ -106,18 +89,14 @@ impl<Q: QuoteRule + Drop, M: MonthRule + Drop> Meter<Q, M> {
 
     // Ends the day at the stamp, and adds its figures to the month's.
     pub fn close(&mut self, stamp: u32) -> Result<(), Refusal>
-        ensures took { Took (Q.QuoteRule.meets self.old.quote_rule) (view self.old.book) (Close stamp) result (view self.new.book) }
-        ensures rules { (self.new.quote_rule ≡ self.old.quote_rule) × (self.new.month_rule ≡ self.old.month_rule) }
-        ensures refused { is_err result ≡ true → self.new ≡ self.old }
+        ensures { Takes (Q.QuoteRule.meets self.old.rulebook.quote_rule) self.old (Close stamp) result self.new }
     {
         self.apply(&Call::Close { stamp })
     }
 
     // Sets all month figures and the closed days to 0.
     pub fn turn(&mut self) -> Result<(), Refusal>
-        ensures took { Took (Q.QuoteRule.meets self.old.quote_rule) (view self.old.book) Turn result (view self.new.book) }
-        ensures rules { (self.new.quote_rule ≡ self.old.quote_rule) × (self.new.month_rule ≡ self.old.month_rule) }
-        ensures refused { is_err result ≡ true → self.new ≡ self.old }
+        ensures { Takes (Q.QuoteRule.meets self.old.rulebook.quote_rule) self.old Turn result self.new }
     {
         self.apply(&Call::Turn)
     }

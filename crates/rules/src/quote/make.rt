@@ -11,12 +11,13 @@ const MAX_PRICE: u32 = 1_000_000_000;
 
 const MAX_SIZE: u32 = 10_000_000;
 
-impl Quote {
-    // The quote of these numbers, or the first refusal that applies: the limits are asked before the order of the prices.
-    pub fn new(given: Sides) -> Result<Quote, Refusal>
-        ensures value { result ≡ quote_of given }
-        ensures plainly { QuoteAnswer given result }
-    {
+// The quote of these numbers, or the first refusal that applies: the limits are asked before the order of the prices.
+impl TryFrom<Sides> for Quote {
+    type Error = Refusal;
+
+    ghost try_from_gives = { λ given r. (r ≡ quote_of given) × QuoteAnswer given r };
+
+    fn try_from(given: Sides) -> Result<Self, Refusal> {
         let Sides {
             bid,
             ask,

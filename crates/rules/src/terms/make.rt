@@ -14,12 +14,13 @@ const MAX_BASIS_POINTS: u32 = 10_000;
 
 const MAX_MINIMUM: u32 = 4_000_000_000;
 
-impl Terms {
-    // The terms of these numbers, or a refusal where one is out of its range.
-    pub fn new(given: Conditions) -> Result<Terms, Refusal>
-        ensures value { result ≡ terms_of given }
-        ensures plainly { TermsAnswer given result }
-    {
+// The terms of these numbers, or a refusal where one is out of its range.
+impl TryFrom<Conditions> for Terms {
+    type Error = Refusal;
+
+    ghost try_from_gives = { λ given r. (r ≡ terms_of given) × TermsAnswer given r };
+
+    fn try_from(given: Conditions) -> Result<Self, Refusal> {
         let Conditions {
             class,
             tier,
@@ -34,12 +35,9 @@ impl Terms {
         if !in_range {
             return Err(Refusal::FieldOutOfRange);
         }
-        let Some(tier) = Tier::numbered(tier) else {
-            return Err(Refusal::FieldOutOfRange);
-        };
         Ok(Terms {
             class: class as u8,
-            tier,
+            tier: Tier::try_from(tier)?,
             limit: limit as u16,
             minimum,
             threshold: threshold as u16,

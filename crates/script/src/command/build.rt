@@ -1,7 +1,8 @@
-// The call, or the question, that a verb and the numbers behind it make; unreadable where there are not just as many numbers.
+// The call, or the question, that a verb and the numbers behind it make. Each pattern names a line's words in their order, which
+// a conversion from an array would hide.
 ghost use Rattle.std.specs.Prelude.{◌≡◌};
 ghost use Rattle.script.specs.declared.verb.Verb.TheVariants.{Enrol, Strike, Open, Phase, Fast, Exempt, Quote, Withdraw, Close, Turn, Figures, Statement};
-ghost use Rattle.script.specs.Commands.{built};
+ghost use Rattle.script.specs.Commands.{asks};
 
 use crate::command::Command;
 use calls::account_key::AccountKey;
@@ -12,12 +13,9 @@ use rules::conditions::Conditions;
 use rules::sides::Sides;
 
 impl Command {
-    pub(crate) fn enrol(numbers: Option<[u32; 7]>) -> Command
-        ensures { result ≡ built Enrol numbers }
+    pub(crate) fn enrol(numbers: [u32; 7]) -> Command
+        ensures { result ≡ asks Enrol numbers }
     {
-        let Some(numbers) = numbers else {
-            return Command::Unreadable;
-        };
         let [maker, instrument, class, tier, threshold, limit, minimum] = numbers;
         Command::Call(Call::Enrol {
             key: AccountKey { maker, instrument },
@@ -31,36 +29,27 @@ impl Command {
         })
     }
 
-    pub(crate) fn strike(numbers: Option<[u32; 2]>) -> Command
-        ensures { result ≡ built Strike numbers }
+    pub(crate) fn strike(numbers: [u32; 2]) -> Command
+        ensures { result ≡ asks Strike numbers }
     {
-        let Some(numbers) = numbers else {
-            return Command::Unreadable;
-        };
         let [maker, instrument] = numbers;
         Command::Call(Call::Strike {
             key: AccountKey { maker, instrument },
         })
     }
 
-    pub(crate) fn open(numbers: Option<[u32; 3]>) -> Command
-        ensures { result ≡ built Open numbers }
+    pub(crate) fn open(numbers: [u32; 3]) -> Command
+        ensures { result ≡ asks Open numbers }
     {
-        let Some(numbers) = numbers else {
-            return Command::Unreadable;
-        };
         let [year, month, day] = numbers;
         Command::Call(Call::Open {
             date: Date { year, month, day },
         })
     }
 
-    pub(crate) fn phase(numbers: Option<[u32; 3]>) -> Command
-        ensures { result ≡ built Phase numbers }
+    pub(crate) fn phase(numbers: [u32; 3]) -> Command
+        ensures { result ≡ asks Phase numbers }
     {
-        let Some(numbers) = numbers else {
-            return Command::Unreadable;
-        };
         let [instrument, phase, stamp] = numbers;
         Command::Call(Call::At {
             stamp,
@@ -68,12 +57,9 @@ impl Command {
         })
     }
 
-    pub(crate) fn fast(numbers: Option<[u32; 2]>) -> Command
-        ensures { result ≡ built Fast numbers }
+    pub(crate) fn fast(numbers: [u32; 2]) -> Command
+        ensures { result ≡ asks Fast numbers }
     {
-        let Some(numbers) = numbers else {
-            return Command::Unreadable;
-        };
         let [flag, stamp] = numbers;
         Command::Call(Call::At {
             stamp,
@@ -81,12 +67,9 @@ impl Command {
         })
     }
 
-    pub(crate) fn exempt(numbers: Option<[u32; 4]>) -> Command
-        ensures { result ≡ built Exempt numbers }
+    pub(crate) fn exempt(numbers: [u32; 4]) -> Command
+        ensures { result ≡ asks Exempt numbers }
     {
-        let Some(numbers) = numbers else {
-            return Command::Unreadable;
-        };
         let [maker, instrument, flag, stamp] = numbers;
         Command::Call(Call::At {
             stamp,
@@ -97,12 +80,9 @@ impl Command {
         })
     }
 
-    pub(crate) fn quote(numbers: Option<[u32; 7]>) -> Command
-        ensures { result ≡ built Quote numbers }
+    pub(crate) fn quote(numbers: [u32; 7]) -> Command
+        ensures { result ≡ asks Quote numbers }
     {
-        let Some(numbers) = numbers else {
-            return Command::Unreadable;
-        };
         let [maker, instrument, stamp, bid, ask, bid_size, ask_size] = numbers;
         Command::Call(Call::At {
             stamp,
@@ -118,12 +98,9 @@ impl Command {
         })
     }
 
-    pub(crate) fn withdraw(numbers: Option<[u32; 3]>) -> Command
-        ensures { result ≡ built Withdraw numbers }
+    pub(crate) fn withdraw(numbers: [u32; 3]) -> Command
+        ensures { result ≡ asks Withdraw numbers }
     {
-        let Some(numbers) = numbers else {
-            return Command::Unreadable;
-        };
         let [maker, instrument, stamp] = numbers;
         Command::Call(Call::At {
             stamp,
@@ -133,41 +110,30 @@ impl Command {
         })
     }
 
-    pub(crate) fn close(numbers: Option<[u32; 1]>) -> Command
-        ensures { result ≡ built Close numbers }
+    pub(crate) fn close(numbers: [u32; 1]) -> Command
+        ensures { result ≡ asks Close numbers }
     {
-        let Some(numbers) = numbers else {
-            return Command::Unreadable;
-        };
         let [stamp] = numbers;
         Command::Call(Call::Close { stamp })
     }
 
-    pub(crate) fn turn(numbers: Option<[u32; 0]>) -> Command
-        ensures { result ≡ built Turn numbers }
+    pub(crate) fn turn(numbers: [u32; 0]) -> Command
+        ensures { result ≡ asks Turn numbers }
     {
-        match numbers {
-            Some(_) => Command::Call(Call::Turn),
-            None => Command::Unreadable,
-        }
+        let [] = numbers;
+        Command::Call(Call::Turn)
     }
 
-    pub(crate) fn figures(numbers: Option<[u32; 2]>) -> Command
-        ensures { result ≡ built Figures numbers }
+    pub(crate) fn figures(numbers: [u32; 2]) -> Command
+        ensures { result ≡ asks Figures numbers }
     {
-        let Some(numbers) = numbers else {
-            return Command::Unreadable;
-        };
         let [maker, instrument] = numbers;
         Command::Figures(AccountKey { maker, instrument })
     }
 
-    pub(crate) fn statement(numbers: Option<[u32; 2]>) -> Command
-        ensures { result ≡ built Statement numbers }
+    pub(crate) fn statement(numbers: [u32; 2]) -> Command
+        ensures { result ≡ asks Statement numbers }
     {
-        let Some(numbers) = numbers else {
-            return Command::Unreadable;
-        };
         let [maker, instrument] = numbers;
         Command::Statement(AccountKey { maker, instrument })
     }

@@ -1,19 +1,10 @@
-use Rattle.std.proofs.Common.{◌<◌, length, Some, ap, ◌∙◌, arith}
+use Rattle.std.proofs.Common.{rules, ap, ◌∙◌, find}
+use Rattle.std.proofs.lemmas.Iterator.{YieldsList-from_slice}
+use Rattle.std.proofs.lemmas.Iterator.Search.{find_from_yields_List}
 use Rattle.accounts.specs.Accounts.{is}
-use Rattle.accounts.specs.Views.{enrolled_in}
-use Rattle.accounts.proofs.Positions.{position_within, found_at, not_found}
 use Rattle.accounts.proofs.table.Table.account.Goals as goal
 
-pub index-requires : goal.index-requires
-index-requires c =
-    let xs = enrolled_in c.args.self.now in
-    let h : c.in-Some.i < length xs = position_within (is c.args.key.now) xs c.in-Some.i c.in-Some.ensures in
-    omega (arith, h, c.args.self.now.accounts.ok.0)
-
-pub returns-in-Some : goal.returns-in-Some
-returns-in-Some c =
-    let xs = enrolled_in c.args.self.now in
-    ap Some c.index.ensures ∙ found_at (is c.args.key.now) xs c.in-Some.i c.in-Some.ensures _
-
-pub returns-in-None : goal.returns-in-None
-returns-in-None c = not_found (is c.args.key.now) (enrolled_in c.args.self.now) c.in-None.ensures
+pub returns : goal.returns
+returns c =
+    let p = is c.args.key.now in
+    c.copied.ensures ∙ find_from_yields_List p _ _ _ c.find.ensures.ran (YieldsList-from_slice c.deref.result.now cc) (λ x b q k. search rules) ∙ ap (find p) c.deref.ensures.value

@@ -1,52 +1,28 @@
-use Rattle.std.proofs.Common.{◌≡◌, ◌+◌, ◌-◌, Bool, map, sym, subst, arith}
+use Rattle.std.proofs.Common.{◌≡◌, ◌+◌, ◌≤◌, true, arith}
 use Rattle.accounts.specs.Accounts.{touched}
-use Rattle.accounts.specs.Bounds.{DayBounds, MonthBounds, reach}
-use Rattle.accounts.specs.Lists.{EachIs}
-use Rattle.accounts.specs.Views.{enrolled_in, trading_in}
-use Rattle.accounts.proofs.Accepted.{at_day, at_fields}
+use Rattle.accounts.specs.Bounds.{DayBounds, MonthBounds}
+use Rattle.accounts.specs.Views.{trading_in}
+use Rattle.accounts.proofs.Accepted.{in_day, unopposed}
+use Rattle.calls.specs.declared.call.Call.TheVariants.{At}
 use Rattle.book.specs.View.{view}
-use Rattle.book.proofs.Bounds.{each_map, each_also, day_room, day_touched}
+use Rattle.book.proofs.Bounds.{all_map, day_touched}
 use Rattle.book.proofs.book.Book.touch.Goals as goal
 
-pub overflow_sub-span : goal.overflow_sub-span
-overflow_sub-span g c = (at_day (view c.args.self.now) c.args.stamp c.args.change.now c.requires).1
-
-pub touch-requires : goal.touch-requires
-touch-requires g c =
+pub invariant_of-self-clause-today : goal.invariant_of-self-clause-today
+invariant_of-self-clause-today g c =
     let b = c.args.self.now in
     let to = c.args.stamp in
-    let day = at_day (view b) to c.args.change.now c.requires in
-    let fields = at_fields (view b) to c.args.change.now c.requires in
-    let span = to - b.clock in
-    let e : b.clock + span ≡ to = omega (arith, day.1) in
-    let was = subst (λ (o : Bool). EachIs (DayBounds (reach o b.clock)) (enrolled_in b.table)) day.0 b.today in
-    record {
-      bounds = each_also (DayBounds b.clock) (DayBounds (86_400_000 - span))
-          (day_room (g.Q.QuoteRule.meets c.args.rule.now) (trading_in b.market) span b.clock to e fields.0) (enrolled_in b.table) was;
-      day = omega (arith, fields.0);
-    }
+    let span = c.between-span.result in
+    let rule = g.Q.QuoteRule.meets span.rule.now in
+    let m = trading_in span.market.now in
+    let day : (b.day_open ≡ true) × (b.clock ≤ to) = in_day (view b).frame to (unopposed (view b) (At to c.args.change.now) c.requires).day in
+    let e : b.clock + span.length ≡ to = omega (arith, day.1, c.between-span.ensures.length) in
+    let was = rw day.0 at b.today in
+    rw day.0 (all_map (DayBounds b.clock) (DayBounds to) (touched rule m span.length c.args.change.now) (day_touched rule m span.length b.clock to e c.args.change.now) _ _ c.touch.ensures was)
 
-pub change-requires : goal.change-requires
-change-requires g c = (at_fields (view c.args.self.now) c.args.stamp c.args.change.now c.requires).1
-
-pub invariant_of-self : goal.invariant_of-self
-invariant_of-self g c =
-    let b = c.args.self.now in
-    let xs = enrolled_in b.table in
-    let to = c.args.stamp in
-    let day = at_day (view b) to c.args.change.now c.requires in
-    let fields = at_fields (view b) to c.args.change.now c.requires in
-    let rule = g.Q.QuoteRule.meets c.args.rule.now in
-    let span = to - b.clock in
-    let e : b.clock + span ≡ to = omega (arith, day.1) in
-    let f = touched rule (trading_in b.market) span c.args.change.now in
-    let was = subst (λ (o : Bool). EachIs (DayBounds (reach o b.clock)) xs) day.0 b.today in
-    let held = each_map (DayBounds b.clock) (DayBounds to) f (day_touched rule (trading_in b.market) span b.clock to e c.args.change.now) xs was in
-    let left = sym c.touch.ensures in
-    record {
-      today = subst (EachIs (DayBounds (reach b.day_open to))) left (subst (λ (o : Bool). EachIs (DayBounds (reach o to)) (map f xs)) (sym day.0) held);
-      month = subst (EachIs (MonthBounds b.closed)) left (each_map (MonthBounds b.closed) (MonthBounds b.closed) f (λ a h. h) xs b.month);
-      day = fields.0;
-      days = b.days;
-      room = b.room;
-    }
+pub invariant_of-self-clause-month : goal.invariant_of-self-clause-month
+invariant_of-self-clause-month g c =
+    let bounds = MonthBounds c.args.self.now.closed in
+    let span = c.between-span.result in
+    let f = touched (g.Q.QuoteRule.meets span.rule.now) (trading_in span.market.now) span.length c.args.change.now in
+    all_map bounds bounds f (λ a h. h) _ _ c.touch.ensures c.args.self.now.month
