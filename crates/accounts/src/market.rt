@@ -1,5 +1,5 @@
-// What all accounts share: how each of the 32 instruments trades, and whether the market is fast. It is Copy, so that contracts
-// read it by a function (`trading_in`): a model would need its inverse.
+// What all accounts share: how each of the 32 instruments trades, and whether the market is fast. Contracts read it by a
+// function (`trading_in`) and not by a model, as they do the table.
 ghost use Rattle.std.specs.Prelude.{◌≡◌, ◌≤◌, true};
 ghost use Rattle.calls.specs.Calls.{change_in_range};
 ghost use Rattle.accounts.specs.Settings.{quiet, trading_changed};

@@ -10,7 +10,8 @@ use rules::refusal::Refusal;
 use rules::rulebook::Rulebook;
 use std::alloc::{AllocError, Global};
 
-// A meter after its run, with what each call was answered.
+// A meter after its run, with what each call was answered. It keeps no calls: with them what it ran could be a ghost field, but
+// a caller would have to keep the lists as long as the run.
 #[derive(Drop)]
 pub struct Run<Q, M> {
     pub meter: Meter<Q, M>,

@@ -9,8 +9,8 @@ ghost use Rattle.lines.specs.Words.{silent, words, first, of_rest, words_left, N
 use crate::number::read_number;
 use crate::unreadable::Unreadable;
 
-// Cut by `split_once`, and not by `split`, whose iterator is not Copy as words are; and so contracts read what is left by a
-// function (`words_left`): a model would need its inverse.
+// Copy, which a caller may use: so it is cut by `split_once` and not by `split`, whose iterator is not, and contracts read what
+// is left by a function (`words_left`), since a model of what is Copy needs an inverse, and this has none.
 #[derive(Clone, Copy)]
 pub struct Words<'a> {
     rest: Option<&'a str>,

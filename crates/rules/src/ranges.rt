@@ -1,4 +1,4 @@
-// Ranges with both ends in.
+// Ranges with both ends in. A function: of ranges at each use, the proof of a quote's limits did not close.
 ghost use Rattle.std.specs.Prelude.{◌≡◌};
 ghost use Rattle.rules.specs.Ranges.{within};
 

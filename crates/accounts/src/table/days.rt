@@ -24,7 +24,8 @@ impl Table {
         step(&mut self.accounts[place]);
     }
 
-    // Lends every account to the step, one at a time: by its place, for what `change_one` promises of the others.
+    // Lends every account to the step, one at a time: by its place, since it is a rule here that one account is lent with a promise
+    // of all others, which `change_one` makes of a place.
     fn change_each<F: Fn(&mut Account)>(&mut self, step: F)
         requires { All (MayCall F.Fn step) (enrolled_in self.old) }
         ensures { (f : Account → Account) → All (Makes F.Fn step f) (enrolled_in self.old) → enrolled_in self.new ≡ map f (enrolled_in self.old) }

@@ -1,5 +1,5 @@
 // What an accepted call leaves, one setter to each kind of call; and one call as a whole. That the call is accepted is a clause
-// of each, since it is a fact of the call and the book together, which no type of either holds.
+// of each that needs it, since it is a fact of the call and the book together, which no type of either holds.
 ghost use Rattle.std.specs.Prelude.{◌≡◌, true, is_err};
 ghost use Rattle.calls.specs.declared.call.Call.TheVariants.{Enrol, Strike, Open, At, Close, Turn};
 ghost use Rattle.calls.specs.Answers.{accepted};
