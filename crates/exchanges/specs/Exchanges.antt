@@ -1,5 +1,5 @@
 -- The name of each exchange.
-use Rattle.std.specs.Prelude.{ℕ, cond, List, Some, None, codes, Option}
+use Rattle.std.specs.Prelude.{ℕ, cond, List, [], ◌∷◌, Some, None, codes, Option}
 use Rattle.std.specs.Str.{bytes_eq}
 use Rattle.exchanges.specs.declared.exchange.Exchange.{Exchange}
 use Rattle.exchanges.specs.declared.unknown_exchange.UnknownExchange.{UnknownExchange}
@@ -12,3 +12,10 @@ exchange_named name =
 -- That no exchange has a name.
 abbrev pub unknown : UnknownExchange
 unknown = record {}
+
+-- The one that a program's arguments name: behind the program's own name there is just that of the exchange.
+abbrev pub exchange_of : List (List ℕ) → Option Exchange
+exchange_of [] = None
+exchange_of (program ∷ []) = None
+exchange_of (program ∷ (name ∷ [])) = exchange_named name
+exchange_of (program ∷ (name ∷ (more ∷ rest))) = None

@@ -1,22 +1,23 @@
 // A program that is run for the exchange that its one argument names.
-ghost use Rattle.std.specs.Prelude.{◌≡◌, Ok};
+ghost use Rattle.std.specs.Prelude.{ℕ, List};
 ghost use Rattle.std.specs.Process.{exit_status};
-ghost use Rattle.exchanges.specs.declared.exchange.Exchange.{Exchange};
-ghost use Rattle.exchanges.specs.Rules.{meets_at, better_at, verdict_at};
+ghost use Rattle.exchanges.specs.Ends.{Ends};
+ghost use Rattle.exchanges.specs.Exchanges.{exchange_of};
 
 use crate::by_rules::ByRules;
 use crate::chosen::chosen_exchange;
 use std::fmt;
 use std::process::ExitCode;
 
-// Does the work, and says on standard error what kept it from being done. Only work that was done ends with status 0.
+// Does the work by the rules of the exchange that the arguments name, and says on standard error what kept it from being done.
+// Status 0 for work that was done, and else 1.
 pub fn run_program<E: fmt::Display + Drop, W: ByRules<Outcome = Result<(), E>> + Drop>(
     rt: &HostRuntime,
     name: &str,
     usage: &str,
     work: W,
 ) -> ExitCode
-    ensures { exit_status result ≡ 0 → (exchange : Exchange) × W.comes work (meets_at exchange) (better_at exchange) (verdict_at exchange) (Ok tt) }
+    ensures { (arguments : List (List ℕ)) × Ends (W.comes work) (exchange_of arguments) (exit_status result) }
 {
     let Some(exchange) = chosen_exchange(rt) else {
         let _ = eprintln!(rt; "usage: {name} vienna|zagreb|beta, {usage}");
