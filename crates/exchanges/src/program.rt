@@ -6,12 +6,13 @@ ghost use Rattle.exchanges.specs.Exchanges.{exchange_of};
 
 use crate::by_rules::ByRules;
 use crate::chosen::chosen_exchange;
+use crate::told::Told;
 use std::fmt;
 use std::process::ExitCode;
 
-// Does the work by the rules of the exchange that the arguments name, and says on standard error what kept it from being done.
+// Does the work by the rules of the exchange that the arguments name. What kept it from being done the work has said itself.
 // Status 0 for work that was done, and else 1.
-pub fn run_program<E: fmt::Display + Drop, W: ByRules<Outcome = Result<(), E>> + Drop>(
+pub fn run_telling_work<E: Drop, W: ByRules<Outcome = Result<(), E>> + Drop>(
     rt: &HostRuntime,
     name: &str,
     usage: &str,
@@ -25,9 +26,18 @@ pub fn run_program<E: fmt::Display + Drop, W: ByRules<Outcome = Result<(), E>> +
     };
     match exchange.run(rt, work) {
         Ok(()) => ExitCode::SUCCESS,
-        Err(e) => {
-            let _ = eprintln!(rt; "{name}: {e}");
-            ExitCode::FAILURE
-        }
+        Err(_) => ExitCode::FAILURE,
     }
+}
+
+// The same, and says on standard error what kept the work from being done.
+pub fn run_program<E: fmt::Display + Drop, W: ByRules<Outcome = Result<(), E>> + Drop>(
+    rt: &HostRuntime,
+    name: &str,
+    usage: &str,
+    work: W,
+) -> ExitCode
+    ensures { (arguments : List (List ℕ)) × Ends (W.comes work) (exchange_of arguments) (exit_status result) }
+{
+    run_telling_work(rt, name, usage, Told { name, work })
 }

@@ -10,7 +10,7 @@ use calls::call::Call;
 use dialogue::contrast::Contrast;
 use dialogue::standing::Standing;
 use exchanges::by_rules::ByRules;
-use exchanges::program::run_program;
+use exchanges::program::run_telling_work;
 use laws::compare::{Compared, compare};
 use laws::replay::Run;
 use laws::statements::{instances_hold, listings_agree};
@@ -24,16 +24,18 @@ use std::io;
 use std::io::{BufRead, BufReader};
 use std::process::ExitCode;
 
+const NAME: &str = "whatif";
+
 fn main(rt: HostRuntime) -> ExitCode {
-    run_program(
+    run_telling_work(
         &rt,
-        "whatif",
+        NAME,
         "with two scripts on standard input, parted by a line --",
         CompareScripts,
     )
 }
 
-// Compares the two scripts of standard input.
+// Compares the two scripts of standard input, or says why not.
 #[derive(Clone, Copy)]
 struct CompareScripts;
 
@@ -47,10 +49,21 @@ impl ByRules for CompareScripts {
         rt: &HostRuntime,
         rulebook: Rulebook<Q, M>,
     ) -> Result<(), Uncompared> {
-        let scripts = read_scripts(rt)?;
-        contrast(rt, rulebook, scripts.first(), scripts.second())?;
-        Ok(())
+        let compared = compare_input(rt, rulebook);
+        if let Err(why) = &compared {
+            why.tell(rt, NAME);
+        }
+        compared
     }
+}
+
+fn compare_input<Q: QuoteRule + Copy + Drop, M: MonthRule + Copy + Drop>(
+    rt: &HostRuntime,
+    rulebook: Rulebook<Q, M>,
+) -> Result<(), Uncompared> {
+    let scripts = read_scripts(rt)?;
+    contrast(rt, rulebook, scripts.first(), scripts.second())?;
+    Ok(())
 }
 
 // The three lines that read are those of `answer_input`: a function over what is done with a line would have to be generic in

@@ -18,6 +18,17 @@ impl Uncompared {
             Untaken::OutOfMemory => Uncompared::Failed(io::Error::from(io::ErrorKind::OutOfMemory)),
         }
     }
+
+    // Says so on standard error. Where what is wrong with the scripts can't be said, it says why that can't.
+    pub(crate) fn tell(&self, rt: &HostRuntime, name: &str) {
+        let said = eprintln!(rt; "{name}: {self}");
+        match (self, said) {
+            (Uncompared::Unreadable { .. } | Uncompared::Unparted, Err(error)) => {
+                let _ = eprintln!(rt; "{name}: {error}");
+            }
+            _ => {}
+        }
+    }
 }
 
 impl From<io::Error> for Uncompared {
