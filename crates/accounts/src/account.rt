@@ -75,7 +75,8 @@ impl Account {
         ensures { result ≡ stands (Q.QuoteRule.meets rule.now) self.now.terms self.now.quote }
     {
         self.quote
-            .is_some_and(|quote| rule.meets(&quote, &self.terms))
+            .as_ref()
+            .is_some_and(|quote| rule.meets(quote, &self.terms))
     }
 
     // Counts the time of the span under what stands.
@@ -85,9 +86,12 @@ impl Account {
     {
         let phase = span.market.phase_of(self.key.instrument);
         let obliged = phase.is_continuous() && !span.market.is_fast() && !self.exempt;
-        let qualified = obliged && self.stands(span.rule);
-        self.today.obliged += if obliged { span.length } else { 0 };
-        self.today.qualified += if qualified { span.length } else { 0 };
+        if obliged {
+            self.today.obliged += span.length;
+            if self.stands(span.rule) {
+                self.today.qualified += span.length;
+            }
+        }
     }
 
     // Sets what the change sets of this account.
