@@ -1,8 +1,10 @@
 // How many quotes were judged, and how. A count that is full stays full.
 ghost use Rattle.std.specs.Prelude.{◌≡◌, Some};
-ghost use Rattle.desk.specs.Tallies.{none_judged, judged_in, counted, tally_text};
+ghost use Rattle.desk.specs.Answers.{tallied};
+ghost use Rattle.desk.specs.Tallies.{none_judged, judged_in, tally_text};
 
 use crate::answer::Answer;
+use answers::fault::Fault;
 use std::fmt;
 
 #[derive(Clone, Copy)]
@@ -29,13 +31,13 @@ impl Tally {
     }
 
     // One answer more: only a judged quote counts.
-    pub fn count(&mut self, answer: &Answer)
-        ensures { self.new ≡ counted self.old answer.now }
+    pub fn count(&mut self, answer: &Result<Answer, Fault>)
+        ensures { self.new ≡ tallied self.old answer.now }
     {
         match answer {
-            Answer::Meets => self.meet = self.meet.saturating_add(1),
-            Answer::DoesNotMeet => self.do_not_meet = self.do_not_meet.saturating_add(1),
-            Answer::Accepted => {}
+            Ok(Answer::Meets) => self.meet = self.meet.saturating_add(1),
+            Ok(Answer::DoesNotMeet) => self.do_not_meet = self.do_not_meet.saturating_add(1),
+            Ok(Answer::Accepted) | Err(_) => {}
         }
     }
 }
