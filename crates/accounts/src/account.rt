@@ -74,6 +74,7 @@ impl Account {
     fn stands<Q: QuoteRule>(&self, rule: &Q) -> bool
         ensures { result ≡ stands (Q.QuoteRule.meets rule.now) self.now.terms self.now.quote }
     {
+        // by reference: a copy, for every account at every stamp, takes its time
         self.quote
             .as_ref()
             .is_some_and(|quote| rule.meets(quote, &self.terms))
